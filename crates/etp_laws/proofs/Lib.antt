@@ -1,0 +1,15 @@
+pub mod Shapes
+pub mod Numbers
+pub mod Canonical
+pub mod Rising
+pub mod WordLemmas
+pub mod Pairs
+pub mod TheList
+pub mod EnumerationLemmas
+pub mod Counts
+pub mod Unique
+pub mod Readings
+pub mod Counting
+pub mod Duals
+pub mod Trivial
+pub mod Sets

@@ -1,0 +1,4 @@
+pub mod Listing
+pub mod Numbering
+pub mod Canonical
+pub mod Enumeration
