@@ -1,0 +1,3 @@
+pub mod Opened
+pub mod Shapes
+pub mod WordOrder
