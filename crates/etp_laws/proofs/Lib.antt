@@ -13,3 +13,9 @@ pub mod Counting
 pub mod Duals
 pub mod Trivial
 pub mod Sets
+pub mod FormLemmas
+pub mod LetterLemmas
+pub mod Blocks
+pub mod FormWords
+pub mod Variables
+pub mod Entries

@@ -1,6 +1,7 @@
 -- The listed laws one after another, from their shapes and words. What the program does; no public clause cites it.
-use Rattle.std.specs.Prelude.{ℕ, zero, suc, ◌+◌, ◌-◌, ◌==◌, Bool, true, false, ◌&&◌, ◌||◌, not, cond, List, [], ◌∷◌, map, filter, flat_map, take, drop, slice_index}
+use Rattle.std.specs.Prelude.{ℕ, zero, suc, ◌+◌, ◌-◌, ◌==◌, Bool, true, false, ◌&&◌, ◌||◌, not, cond, List, [], ◌∷◌, ◌++◌, map, filter, flat_map, take, drop, slice_index}
 use Rattle.std.specs.List.{range_with_len}
+use Rattle.std.specs.Str.{bytes_eq}
 use Rattle.std.specs.Cmp.Lexicographic.{slice_cmp}
 use Rattle.std.specs.Ordering.{nat_cmp, is_gt}
 use Rattle.std.specs.declared.cmp.Ordering.{Ordering}
@@ -57,6 +58,11 @@ is_listed p = is_first_reading (shape_cmp (shape_of p.left) (shape_of p.right)) 
 
 abbrev pub law_at : Shape × Shape → List ℕ → Equation
 law_at s w = record { left = filled s.0 (take (shape_leaves s.0) w); right = filled s.1 (drop (shape_leaves s.0) w) }
+
+-- of a word of a law whose sides have m variables each: whether the law is listed
+abbrev pub is_kept : ℕ → List ℕ → Bool
+is_kept m w =
+    not (is_gt (slice_cmp nat_cmp w (numbered (drop m w ++ take m w)))) && (not (bytes_eq (take m w) (drop m w)) || (m == 1))
 
 abbrev pub laws_at : Shape × Shape → List Equation
 laws_at s = filter is_listed (map (law_at s) (words (shape_leaves s.0 + shape_leaves s.1) 0))
