@@ -1,0 +1,186 @@
+use Rattle.std.proofs.Common.{◌≡◌, ◌≢◌, ℕ, ◌+◌, ◌⊎◌, inl, inr, List, [], ◌∷◌, map, refl, sym, ◌∙◌, ap, subst, arith, false}
+use Rattle.std.proofs.lemmas.Bool.{true≢false}
+use Rattle.std.proofs.lemmas.Cmp.{tied_itself, nat_list_cmp_total}
+use Rattle.std.specs.Cmp.Lexicographic.{slice_cmp}
+use Rattle.std.specs.Ordering.{nat_cmp, ordering_reverse, is_gt}
+use Rattle.std.specs.declared.cmp.Ordering.{Ordering}
+use Rattle.std.specs.declared.cmp.Ordering.TheVariants.{Less, Equal, Greater}
+use Rattle.etp_theory.specs.Orders.{shape_cmp}
+use Rattle.etp_theory.specs.Sameness.{IsInjective, Same}
+use Rattle.etp_theory.specs.Trees.{Tree, var, op, Shape, Equation, shape_of, law_word, law_ops, renamed, law_renamed, exchanged}
+use Rattle.etp_laws.specs.Enumeration.{law_at}
+use Rattle.etp_laws.specs.Listing.{Listed}
+use Rattle.etp_laws.specs.Numbering.{numbered}
+use Rattle.etp_laws.specs.Canonical.{IsCanonical}
+use Rattle.etp_laws.proofs.Shapes.{shape_total, shape_cmp-equal}
+use Rattle.etp_laws.proofs.Numbers.{numbered_by, numbered-map, numbered-numbered}
+use Rattle.etp_laws.proofs.Canonical.{cases_Ordering, shape_of-renamed, law_word-renamed, ops-shape_of, slice_cmp-equal, canonical_from_listed, listed_from_canonical}
+use Rattle.etp_laws.proofs.TheList.{law_at-shapes_of}
+
+pub renamed-injective : (f : ℕ → ℕ) → IsInjective f → (t u : Tree) → renamed f t ≡ renamed f u → t ≡ u
+renamed-injective f inj (var v) (var w) e = let h : f v ≡ f w = cc in ap var (inj v w h)
+renamed-injective f inj (var v) (op c d) e = cc
+renamed-injective f inj (op a b) (var w) e = cc
+renamed-injective f inj (op a b) (op c d) e =
+    let l : renamed f a ≡ renamed f c = cc in
+    let r : renamed f b ≡ renamed f d = cc in
+    (λ i. op (renamed-injective f inj a c l i) (renamed-injective f inj b d r i))
+
+-- e is p with its variables numbered by first occurrence
+record Reading (p e : Equation) : Type 0 where
+  by : ℕ → ℕ
+  injective : IsInjective by
+  is : law_renamed by p ≡ e
+  word : law_word e ≡ numbered (law_word p)
+
+reading_of : (p : Equation) → (e : Equation) × Reading p e
+reading_of p =
+    let n = numbered_by (law_word p) in
+    (law_renamed n.to p, record { by = n.to; injective = n.injective; is = refl; word = law_word-renamed n.to p ∙ n.is })
+
+left_shape : (p e : Equation) → Reading p e → shape_of e.left ≡ shape_of p.left
+left_shape p e r = ap (λ (q : Equation). shape_of q.left) (sym r.is) ∙ shape_of-renamed r.by p.left
+
+right_shape : (p e : Equation) → Reading p e → shape_of e.right ≡ shape_of p.right
+right_shape p e r = ap (λ (q : Equation). shape_of q.right) (sym r.is) ∙ shape_of-renamed r.by p.right
+
+-- a canonical law that a renaming takes p to is p's reading
+reading_from : (p e : Equation) (f : ℕ → ℕ) → IsInjective f → law_renamed f p ≡ e → IsCanonical e → Reading p e
+reading_from p e f inj is c = record {
+  by = f;
+  injective = inj;
+  is = is;
+  word = sym c.by_occurrence ∙ ap (λ q. numbered (law_word q)) (sym is) ∙ ap numbered (law_word-renamed f p) ∙ numbered-map f inj (law_word p);
+}
+
+-- laws of one pair of shapes and one word are one law
+same_law : (p q : Equation) → shape_of p.left ≡ shape_of q.left → shape_of p.right ≡ shape_of q.right → law_word p ≡ law_word q → p ≡ q
+same_law p q l r w = sym (law_at-shapes_of p) ∙ (λ i. law_at (l i, r i) (w i)) ∙ law_at-shapes_of q
+
+-- the numbered word of the exchanged reading is that of the exchanged law
+exchanged_word : (p e : Equation) → Reading p e → numbered (law_word (exchanged e)) ≡ numbered (law_word (exchanged p))
+exchanged_word p e r = ap (λ q. numbered (law_word (exchanged q))) (sym r.is) ∙ ap numbered (law_word-renamed r.by (exchanged p)) ∙ numbered-map r.by r.injective (law_word (exchanged p))
+
+both_ways : (xs ys : List ℕ) → is_gt (slice_cmp nat_cmp xs ys) ≡ false → is_gt (slice_cmp nat_cmp ys xs) ≡ false → xs ≡ ys
+both_ways xs ys h k = one (cases_Ordering (slice_cmp nat_cmp xs ys))
+  where
+    one : ((slice_cmp nat_cmp xs ys ≡ Less) ⊎ ((slice_cmp nat_cmp xs ys ≡ Equal) ⊎ (slice_cmp nat_cmp xs ys ≡ Greater))) → xs ≡ ys
+    one (inl e) = absurd (true≢false (sym (ap is_gt (nat_list_cmp_total.antisymm ys xs ∙ ap ordering_reverse e)) ∙ k))
+    one (inr (inl e)) = slice_cmp-equal xs ys e
+    one (inr (inr e)) = absurd (true≢false (sym (ap is_gt e) ∙ h))
+
+both_shapes : (s t : Shape) → is_gt (shape_cmp s t) ≡ false → is_gt (shape_cmp t s) ≡ false → s ≡ t
+both_shapes s t h k = one (cases_Ordering (shape_cmp s t))
+  where
+    one : ((shape_cmp s t ≡ Less) ⊎ ((shape_cmp s t ≡ Equal) ⊎ (shape_cmp s t ≡ Greater))) → s ≡ t
+    one (inl e) = absurd (true≢false (sym (ap is_gt (shape_total.antisymm t s ∙ ap ordering_reverse e)) ∙ k))
+    one (inr (inl e)) = shape_cmp-equal s t e
+    one (inr (inr e)) = absurd (true≢false (sym (ap is_gt e) ∙ h))
+
+-- the readings of a law and of its exchanged law are one law where both are canonical
+readings_meet : (p e e' : Equation) → IsCanonical e → IsCanonical e' → Reading p e → Reading (exchanged p) e' → e ≡ e'
+readings_meet p e e' c c' r r' =
+    same_law e e' (left_shape p e r ∙ same ∙ sym (left_shape (exchanged p) e' r')) (right_shape p e r ∙ sym same ∙ sym (right_shape (exchanged p) e' r'))
+    (both_ways (law_word e) (law_word e')
+    (subst (λ w. is_gt (slice_cmp nat_cmp (law_word e) w) ≡ false) (exchanged_word p e r ∙ sym r'.word) (c.words (left_shape p e r ∙ same ∙ sym (right_shape p e r))))
+    (subst (λ w. is_gt (slice_cmp nat_cmp (law_word e') w) ≡ false) (exchanged_word (exchanged p) e' r' ∙ sym r.word) (c'.words (left_shape (exchanged p) e' r' ∙ sym same ∙ sym (right_shape (exchanged p) e' r')))))
+  where
+    same : shape_of p.left ≡ shape_of p.right
+    same = both_shapes (shape_of p.left) (shape_of p.right)
+        (sym (λ i. is_gt (shape_cmp (left_shape p e r i) (right_shape p e r i))) ∙ c.shapes)
+        (sym (λ i. is_gt (shape_cmp (left_shape (exchanged p) e' r' i) (right_shape (exchanged p) e' r' i))) ∙ c'.shapes)
+
+-- at most one listed law is the same
+pub Listed-unique : (p e e' : Equation) → Listed e → Listed e' → Same p e → Same p e' → e ≡ e'
+Listed-unique p e e' l l' (f, inj, inl h) (g, inj', inl k) =
+    let r = reading_from p e f inj h (canonical_from_listed e l) in
+    let s = reading_from p e' g inj' k (canonical_from_listed e' l') in
+    same_law e e' (left_shape p e r ∙ sym (left_shape p e' s)) (right_shape p e r ∙ sym (right_shape p e' s)) (r.word ∙ sym s.word)
+Listed-unique p e e' l l' (f, inj, inl h) (g, inj', inr k) =
+    readings_meet p e e' (canonical_from_listed e l) (canonical_from_listed e' l')
+    (reading_from p e f inj h (canonical_from_listed e l))
+    (reading_from (exchanged p) e' g inj' (ap exchanged k) (canonical_from_listed e' l'))
+Listed-unique p e e' l l' (f, inj, inr h) (g, inj', inl k) =
+    sym (readings_meet p e' e (canonical_from_listed e' l') (canonical_from_listed e l)
+    (reading_from p e' g inj' k (canonical_from_listed e' l'))
+    (reading_from (exchanged p) e f inj (ap exchanged h) (canonical_from_listed e l)))
+Listed-unique p e e' l l' (f, inj, inr h) (g, inj', inr k) =
+    let r = reading_from (exchanged p) e f inj (ap exchanged h) (canonical_from_listed e l) in
+    let s = reading_from (exchanged p) e' g inj' (ap exchanged k) (canonical_from_listed e' l') in
+    same_law e e' (left_shape (exchanged p) e r ∙ sym (left_shape (exchanged p) e' s)) (right_shape (exchanged p) e r ∙ sym (right_shape (exchanged p) e' s)) (r.word ∙ sym s.word)
+
+-- the reading of a law whose left shape is not greater, and whose word is not greater where the shapes are equal, is canonical
+canonical_reading : (p e : Equation) → Reading p e → is_gt (shape_cmp (shape_of p.left) (shape_of p.right)) ≡ false → (shape_of p.left ≡ shape_of p.right → is_gt (slice_cmp nat_cmp (numbered (law_word p)) (numbered (law_word (exchanged p)))) ≡ false) → p.left ≢ p.right → IsCanonical e
+canonical_reading p e r s w n = record {
+  by_occurrence = ap numbered r.word ∙ numbered-numbered (law_word p) ∙ sym r.word;
+  shapes = (λ i. is_gt (shape_cmp (left_shape p e r i) (right_shape p e r i))) ∙ s;
+  words = λ h. (λ i. is_gt (slice_cmp nat_cmp (r.word i) (exchanged_word p e r i))) ∙ w (sym (left_shape p e r) ∙ h ∙ right_shape p e r);
+  sides = inl (λ h. n (renamed-injective r.by r.injective p.left p.right (ap (λ (q : Equation). q.left) r.is ∙ h ∙ sym (ap (λ (q : Equation). q.right) r.is))));
+}
+
+law_ops-reading : (p e : Equation) → Reading p e → law_ops e ≡ law_ops p
+law_ops-reading p e r = λ i. ops-shape_of e.left p.left (left_shape p e r) i + ops-shape_of e.right p.right (right_shape p e r) i
+
+-- a law whose sides differ is the same as some listed law
+pub Listed-exists : (p : Equation) → p.left ≢ p.right → (e : Equation) × Listed e × Same p e × (law_ops e ≡ law_ops p)
+Listed-exists p n = by_shapes (cases_Ordering (shape_cmp (shape_of p.left) (shape_of p.right))) (cases_Ordering (slice_cmp nat_cmp (numbered (law_word p)) (numbered (law_word (exchanged p)))))
+  where
+    less_not_equal : Less ≡ Equal → ⊥
+    less_not_equal e = cc
+
+    greater_not_equal : Greater ≡ Equal → ⊥
+    greater_not_equal e = cc
+
+    plain : is_gt (shape_cmp (shape_of p.left) (shape_of p.right)) ≡ false → (shape_of p.left ≡ shape_of p.right → is_gt (slice_cmp nat_cmp (numbered (law_word p)) (numbered (law_word (exchanged p)))) ≡ false) → (e : Equation) × Listed e × Same p e × (law_ops e ≡ law_ops p)
+    plain s w =
+        let r = reading_of p in
+        (r.0, listed_from_canonical r.0 (canonical_reading p r.0 r.1 s w n), (r.1.by, r.1.injective, inl r.1.is), law_ops-reading p r.0 r.1)
+
+    turned : is_gt (shape_cmp (shape_of p.right) (shape_of p.left)) ≡ false → (shape_of p.right ≡ shape_of p.left → is_gt (slice_cmp nat_cmp (numbered (law_word (exchanged p))) (numbered (law_word p))) ≡ false) → (e : Equation) × Listed e × Same p e × (law_ops e ≡ law_ops p)
+    turned s w =
+        let r = reading_of (exchanged p) in
+        let l = law_ops-reading (exchanged p) r.0 r.1 in let more : law_ops r.0 ≡ law_ops p = omega arith in
+        (r.0, listed_from_canonical r.0 (canonical_reading (exchanged p) r.0 r.1 s w (λ h. n (sym h))), (r.1.by, r.1.injective, inr (ap exchanged r.1.is)), more)
+
+    back : (s t : Shape) (o : Ordering) → shape_cmp s t ≡ o → shape_cmp t s ≡ ordering_reverse o
+    back s t o e = shape_total.antisymm t s ∙ ap ordering_reverse e
+
+    by_shapes : ((shape_cmp (shape_of p.left) (shape_of p.right) ≡ Less) ⊎ ((shape_cmp (shape_of p.left) (shape_of p.right) ≡ Equal) ⊎ (shape_cmp (shape_of p.left) (shape_of p.right) ≡ Greater))) → ((slice_cmp nat_cmp (numbered (law_word p)) (numbered (law_word (exchanged p))) ≡ Less) ⊎ ((slice_cmp nat_cmp (numbered (law_word p)) (numbered (law_word (exchanged p))) ≡ Equal) ⊎ (slice_cmp nat_cmp (numbered (law_word p)) (numbered (law_word (exchanged p))) ≡ Greater))) → (e : Equation) × Listed e × Same p e × (law_ops e ≡ law_ops p)
+    by_shapes (inl e) w = plain (ap is_gt e) (λ h. absurd (less_not_equal (sym e ∙ (λ i. shape_cmp (h i) (shape_of p.right)) ∙ tied_itself shape_total (shape_of p.right))))
+    by_shapes (inr (inr e)) w = turned (ap is_gt (back (shape_of p.left) (shape_of p.right) Greater e)) (λ h. absurd (greater_not_equal (sym e ∙ (λ i. shape_cmp (sym h i) (shape_of p.right)) ∙ tied_itself shape_total (shape_of p.right))))
+    by_shapes (inr (inl e)) (inl w) = plain (ap is_gt e) (λ _. ap is_gt w)
+    by_shapes (inr (inl e)) (inr (inl w)) = plain (ap is_gt e) (λ _. ap is_gt w)
+    by_shapes (inr (inl e)) (inr (inr w)) = turned (ap is_gt (back (shape_of p.left) (shape_of p.right) Equal e)) (λ _. ap is_gt (nat_list_cmp_total.antisymm (numbered (law_word (exchanged p))) (numbered (law_word p)) ∙ ap ordering_reverse w))
+
+map-map : (g h : ℕ → ℕ) → ((y : ℕ) → h (g y) ≡ y) → (w : List ℕ) → map h (map g w) ≡ w
+map-map g h e [] = refl
+map-map g h e (v ∷ w) = λ i. e v i ∷ map-map g h e w i
+
+map-through : (g h : ℕ → ℕ) (w : List ℕ) → map (λ y. h (g y)) w ≡ map h (map g w)
+map-through g h [] = refl
+map-through g h (v ∷ w) = ap (λ u. h (g v) ∷ u) (map-through g h w)
+
+-- laws of one pair of shapes and one numbered word: a renaming takes one to the other
+renaming_between : (p q : Equation) → shape_of p.left ≡ shape_of q.left → shape_of p.right ≡ shape_of q.right → numbered (law_word p) ≡ numbered (law_word q) → (f : ℕ → ℕ) × IsInjective f × (law_renamed f p ≡ q)
+renaming_between p q l r w =
+    let m = numbered_by (law_word p) in
+    let n = numbered_by (law_word q) in
+    let f : ℕ → ℕ = λ y. n.back (m.to y) in
+    let inj : IsInjective f = λ x y e. m.injective x y (sym (n.inverse.to (m.to x)) ∙ ap n.to e ∙ n.inverse.to (m.to y)) in (
+      f,
+      inj,
+      same_law (law_renamed f p) q (shape_of-renamed f p.left ∙ l) (shape_of-renamed f p.right ∙ r)
+          (law_word-renamed f p ∙ map-through m.to n.back (law_word p) ∙ ap (map n.back) (m.is ∙ w ∙ sym n.is) ∙ map-map n.to n.back n.inverse.back (law_word q)),
+    )
+
+numbered-law_renamed : (f : ℕ → ℕ) → IsInjective f → (p : Equation) → numbered (law_word (law_renamed f p)) ≡ numbered (law_word p)
+numbered-law_renamed f inj p = ap numbered (law_word-renamed f p) ∙ numbered-map f inj (law_word p)
+
+pub Same-sym : (p q : Equation) → Same p q → Same q p
+Same-sym p q (f, inj, inl e) =
+    let b = renaming_between q p (ap (λ (u : Equation). shape_of u.left) (sym e) ∙ shape_of-renamed f p.left) (ap (λ (u : Equation). shape_of u.right) (sym e) ∙ shape_of-renamed f p.right) (ap (λ u. numbered (law_word u)) (sym e) ∙ numbered-law_renamed f inj p) in
+    (b.0, b.1, inl b.2)
+Same-sym p q (f, inj, inr e) =
+    let h : law_renamed f (exchanged p) ≡ q = ap exchanged e in
+    let b = renaming_between q (exchanged p) (ap (λ (u : Equation). shape_of u.left) (sym h) ∙ shape_of-renamed f p.right) (ap (λ (u : Equation). shape_of u.right) (sym h) ∙ shape_of-renamed f p.left) (ap (λ u. numbered (law_word u)) (sym h) ∙ numbered-law_renamed f inj (exchanged p)) in
+    (b.0, b.1, inr b.2)

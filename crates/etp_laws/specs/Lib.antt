@@ -1,0 +1,7 @@
+pub mod Listing
+pub mod Numbering
+pub mod Canonical
+pub mod Enumeration
+pub mod Forms
+pub mod Coding
+pub mod LawLists
