@@ -16,6 +16,9 @@ pub trait Magma {
     /// The operation.
     ghost times: { Self → Self.Value → Self.Value → Self.Value };
 
+    /// How many values a caller may list, 0 for no bound.
+    fn size(&self) -> u32;
+
     ghost closed: { (m : Self) → IsClosed (inside m) (times m) };
 
     ghost sound: { (m : Self) (e f : Equation) → Holds (inside m) (times m) e.left e.right → Derives e f → Holds (inside m) (times m) f.left f.right } = { λ m e f h d. holds_after (inside m) (times m) (closed m) e h d };
