@@ -3,7 +3,6 @@ ghost use Rattle.std.specs.Prelude.{◌≡◌, Bool, IsTrue};
 ghost use Rattle.etp_theory.specs.Trees.{Equation};
 ghost use Rattle.etp_theory.specs.Derivations.{Derives};
 ghost use Rattle.etp_theory.specs.Magmas.{IsClosed, Holds};
-ghost use Rattle.etp_theory.specs.Sound.{sound as holds_after};
 
 /// A set with one binary operation: a test of the carrier, and an operation that stays in it.
 pub trait Magma {
@@ -16,12 +15,9 @@ pub trait Magma {
     /// The operation.
     ghost times: { Self → Self.Value → Self.Value → Self.Value };
 
-    /// How many values a caller may list, 0 for no bound.
-    fn size(&self) -> u32;
-
     ghost closed: { (m : Self) → IsClosed (inside m) (times m) };
 
-    ghost sound: { (m : Self) (e f : Equation) → Holds (inside m) (times m) e.left e.right → Derives e f → Holds (inside m) (times m) f.left f.right } = { λ m e f h d. holds_after (inside m) (times m) (closed m) e h d };
+    ghost sound: { (m : Self) (e f : Equation) → Holds (inside m) (times m) e.left e.right → Derives e f → Holds (inside m) (times m) f.left f.right };
 }
 
 /// What is derived from a law that holds in the magma holds there too.
