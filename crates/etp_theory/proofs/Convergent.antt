@@ -1,18 +1,18 @@
-use Rattle.std.proofs.Common.{◌≡◌, ◌≢◌, ℕ, zero, suc, ◌<◌, ◌≤◌, List, Option, Some, None, refl, sym, ap, ap₂, ◌∙◌, subst, subst₂, arith}
-use Rattle.etp_theory.specs.Trees.{Tree, op, Equation}
-use Rattle.etp_theory.specs.Substitutions.{apply, Partial, total, raise}
-use Rattle.etp_theory.specs.Positions.{put_at, sub_at}
+use Rattle.std.proofs.Common.{◌≡◌, ◌≢◌, ℕ, zero, suc, List, Option, Some, None, refl, sym, ap, ap₂, ◌∙◌, subst, subst₂}
+use Rattle.etp_theory.specs.Trees.{Tree, Equation}
+use Rattle.etp_theory.specs.Substitutions.{apply, total, raise}
+use Rattle.etp_theory.specs.Positions.{put_at}
 use Rattle.etp_theory.specs.Derivations.{Derives}
 use Rattle.etp_theory.specs.Rewriting.{Steps, Joinable, IsLocallyConfluent}
 use Rattle.etp_theory.specs.Weights.{Weight, AllDecrease}
 use Rattle.etp_theory.specs.Strategy.{next, go_on, walk, normal_form}
-use Rattle.etp_theory.specs.Overlaps.{Overlap, outer_part, inner_part, left_result, right_result, PairsJoin, IsConvergent}
+use Rattle.etp_theory.specs.Overlaps.{outer_part, inner_part, PairsJoin, IsConvergent}
 use Rattle.etp_theory.specs.Forms.{IsFormOf, HaveOneForm}
 use Rattle.etp_theory.proofs.Trees.{sub_at_applied, put_at_applied}
 use Rattle.etp_theory.proofs.Rewriting.{join_applied}
 use Rattle.etp_theory.proofs.NormalForms.{normal_steps, normal_end, not_derived}
 use Rattle.etp_theory.proofs.Overlaps.{critical_pairs}
-use Rattle.etp_theory.proofs.Unifiers.{apply_same, Mgu, mgu, partial_of, total_of, partial_mgu, through, limit, finite}
+use Rattle.etp_theory.proofs.Unifiers.{mgu, partial_of, total_of, partial_mgu, through, limit, finite}
 
 pub walk_stays : (rules : List Equation) (n : ℕ) (s : Tree) → next rules s ≡ None → walk rules n s ≡ s
 walk_stays rules zero s h = refl

@@ -1,4 +1,4 @@
-use Rattle.std.proofs.Common.{◌≡◌, ℕ, List, [], ◌∷◌, Option, Some, None, refl, sym, ap, ap₂, ◌∙◌, subst, subst₂}
+use Rattle.std.proofs.Common.{◌≡◌, ℕ, List, [], ◌∷◌, Some, sym, subst, subst₂}
 use Rattle.etp_theory.specs.Trees.{Tree, var, op, dual, law_dual, Equation}
 use Rattle.etp_theory.specs.Substitutions.{apply, then_apply}
 use Rattle.etp_theory.specs.Positions.{Side, to_left, to_right, sub_at, put_at}

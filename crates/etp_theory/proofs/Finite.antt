@@ -1,5 +1,5 @@
 -- Total substitutions and finite partial maps do the same on any two terms, and give the same derivations.
-use Rattle.std.proofs.Common.{◌≡◌, ℕ, ◌≤◌, max, Bool, cond, ltb, Some, None, refl, sym, ap, ap₂, subst₂, arith, lt-ltb}
+use Rattle.std.proofs.Common.{◌≡◌, ℕ, ◌≤◌, max, Bool, cond, Some, None, ap, ap₂, subst₂, arith, lt-ltb}
 use Rattle.etp_theory.specs.Trees.{Tree, var, op, bound, Equation}
 use Rattle.etp_theory.specs.Substitutions.{apply, Partial, value_or, total}
 use Rattle.etp_theory.specs.Derivations.{Concludes, by_law, reflexive, symmetric, transitive, congruent}

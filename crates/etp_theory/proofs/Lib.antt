@@ -17,4 +17,4 @@ pub mod Renaming
 pub mod Rounds
 pub mod Passing
 pub mod Reaching
-pub mod Example
+pub mod Examples

@@ -1,8 +1,8 @@
-use Rattle.std.proofs.Common.{◌≡◌, ℕ, zero, suc, ◌<◌, ◌+◌, List, refl, arith}
+use Rattle.std.proofs.Common.{ℕ, zero, suc, ◌<◌, List, arith}
 use Rattle.etp_theory.specs.Trees.{Tree, Equation}
-use Rattle.etp_theory.specs.Rewriting.{Step, Steps, stop, more, Joinable, IsLocallyConfluent, Convertible, here, forth, back}
+use Rattle.etp_theory.specs.Rewriting.{Steps, stop, more, Joinable, IsLocallyConfluent, Convertible, here, forth, back}
 use Rattle.etp_theory.specs.Weights.{Weight, weigh, AllDecrease}
-use Rattle.etp_theory.proofs.Rewriting.{then, join_before, join_swapped, one}
+use Rattle.etp_theory.proofs.Rewriting.{then, one}
 use Rattle.etp_theory.proofs.Weights.{step_falls}
 
 abbrev pub size : Weight → Tree → ℕ

@@ -1,7 +1,7 @@
-use Rattle.std.proofs.Common.{◌≡◌, ◌≢◌, ℕ, zero, suc, ◌<◌, ◌≤◌, ◌+◌, ◌*◌, Bool, true, false, IsTrue, List, Option, Some, None, refl, sym, ap, ap₂, ◌∙◌, subst, arith}
+use Rattle.std.proofs.Common.{◌≡◌, ◌≢◌, ℕ, zero, suc, ◌<◌, ◌≤◌, ◌+◌, ◌*◌, IsTrue, List, Option, Some, None, refl, sym, ap, ap₂, ◌∙◌, subst, arith}
 use Rattle.etp_theory.specs.Trees.{Tree, var, op, Equation}
 use Rattle.etp_theory.specs.Substitutions.{apply}
-use Rattle.etp_theory.specs.Derivations.{Concludes, Derives}
+use Rattle.etp_theory.specs.Derivations.{Derives}
 use Rattle.etp_theory.specs.Magmas.{meaning, IsClosed, Holds}
 use Rattle.etp_theory.specs.Rewriting.{Step, Steps, stop, more, Joinable, IsLocallyConfluent, Convertible}
 use Rattle.etp_theory.specs.Weights.{Weight, weigh, constant, AllDecrease}
@@ -67,6 +67,14 @@ module _ (w : Weight) (rules : List Equation) (all : AllDecrease w rules) where
     normal_unique {s} {a} d e =
         let j = confluent w rules all local (normal_steps s) d in
         stuck (normal_end s) j.from_left ∙ sym (stuck e j.from_right)
+
+    -- what has no step at all is the normal form of what leads to it
+    pub normal_stuck : {s a : Tree} → Steps rules s a → ((t : Tree) → Step rules a t → ⊥) → normal_form w rules s ≡ a
+    normal_stuck {s} {a} d h = normal_unique d (go (next rules a) refl)
+      where
+        go : (o : Option Tree) → next rules a ≡ o → next rules a ≡ None
+        go None q = q
+        go (Some t) q = absurd (h t (next_some rules a t q))
 
     pub normal_same : {s t : Tree} → Steps rules s t → normal_form w rules s ≡ normal_form w rules t
     normal_same {s} {t} d = normal_unique (then rules d (normal_steps t)) (normal_end t)

@@ -1,13 +1,12 @@
-use Rattle.std.proofs.Common.{◌≡◌, ◌≢◌, ℕ, zero, suc, ◌<◌, ◌≤◌, ◌+◌, ◌-◌, ◌*◌, max, ◌⊎◌, inl, inr, Bool, true, false, cond, eqb, ltb, List, [], ◌∷◌, Option, Some, None, slice_get, refl, sym, ap, ap₂, ◌∙◌, subst, subst₂, arith, eqb-true, eq-eqb, lt-ltb, le-ltb}
+use Rattle.std.proofs.Common.{◌≡◌, ◌≢◌, ℕ, ◌<◌, ◌≤◌, ◌+◌, ◌-◌, ◌*◌, ◌⊎◌, inl, inr, Bool, true, false, cond, eqb, ltb, List, [], ◌∷◌, Some, slice_get, refl, sym, ap, ap₂, ◌∙◌, subst, subst₂, arith, eqb-true, eq-eqb, lt-ltb, le-ltb}
 use Rattle.etp_theory.specs.Trees.{Tree, var, op, bound, Occurs, Equation}
-use Rattle.etp_theory.specs.Substitutions.{apply, then_apply, raise}
+use Rattle.etp_theory.specs.Substitutions.{apply, raise}
 use Rattle.etp_theory.specs.Positions.{Side, to_left, to_right, sub_at, put_at}
-use Rattle.etp_theory.specs.Rewriting.{Step, at_root, in_left, in_right, Steps, stop, more, Joinable, IsLocallyConfluent}
+use Rattle.etp_theory.specs.Rewriting.{Step, at_root, in_left, in_right, Steps, stop, Joinable, IsLocallyConfluent}
 use Rattle.etp_theory.specs.Weights.{Weight, coefficient, IsDecreasing, AllDecrease}
-use Rattle.etp_theory.specs.Overlaps.{Overlap, outer_part, inner_part, left_result, right_result, PairsJoin, HasSmallVariables}
-use Rattle.etp_theory.specs.Unifiers.{IsMostGeneral}
-use Rattle.etp_theory.proofs.Trees.{composed, some-eq, put_at_applied}
-use Rattle.etp_theory.proofs.Rewriting.{one, then, steps_both, steps_pointwise, join_applied, join_swapped, join_left, join_right}
+use Rattle.etp_theory.specs.Overlaps.{Overlap, PairsJoin, HasSmallVariables}
+use Rattle.etp_theory.proofs.Trees.{some-eq}
+use Rattle.etp_theory.proofs.Rewriting.{one, then, steps_both, steps_pointwise, join_swapped, join_left, join_right}
 use Rattle.etp_theory.proofs.Matching.{apply_agree, agree_of_apply}
 
 -- a step of an operation, by cases

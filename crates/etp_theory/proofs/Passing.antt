@@ -1,7 +1,7 @@
 -- A system is convergent exactly where each overlap passes.
-use Rattle.std.proofs.Common.{◌≡◌, ◌≢◌, ℕ, zero, suc, ◌<◌, ◌≤◌, ◌+◌, ◌-◌, ◌⊎◌, inl, inr, List, Option, Some, None, refl, sym, ap, ap₂, ◌∙◌, subst, subst₂, arith}
-use Rattle.etp_theory.specs.Trees.{Tree, op, leaves, Equation}
-use Rattle.etp_theory.specs.Substitutions.{apply, Partial, total, raise}
+use Rattle.std.proofs.Common.{◌≡◌, ℕ, zero, suc, ◌≤◌, ◌⊎◌, inl, inr, List, Option, Some, None, refl, sym, ap, ap₂, ◌∙◌, subst, subst₂, arith}
+use Rattle.etp_theory.specs.Trees.{Tree, leaves, Equation}
+use Rattle.etp_theory.specs.Substitutions.{Partial, total, raise}
 use Rattle.etp_theory.specs.Positions.{put_at}
 use Rattle.etp_theory.specs.Weights.{Weight, AllDecrease}
 use Rattle.etp_theory.specs.Strategy.{next, go_on, walk}

@@ -1,11 +1,10 @@
 -- Right steps and lemmas unfold into derivations.
-use Rattle.std.proofs.Common.{◌≡◌, ℕ, zero, suc, ◌⊎◌, inl, inr, Bool, true, false, cond, List, [], ◌∷◌, ◌++◌, Option, Some, None, slice_get, refl, sym, ap, ◌∙◌, subst}
-use Rattle.etp_theory.specs.Trees.{Tree, Equation, exchanged}
-use Rattle.etp_theory.specs.Substitutions.{apply}
+use Rattle.std.proofs.Common.{◌≡◌, ℕ, zero, suc, ◌⊎◌, inl, inr, Bool, true, false, cond, List, [], ◌∷◌, ◌++◌, Some, slice_get, refl, sym, ◌∙◌, subst}
+use Rattle.etp_theory.specs.Trees.{Tree, Equation}
 use Rattle.etp_theory.specs.Positions.{Side, sub_at, put_at}
 use Rattle.etp_theory.specs.Derivations.{Concludes, reflexive, symmetric, transitive, Derives}
-use Rattle.etp_theory.specs.Proofs.{ProofStep, Lemma, last_term, conclusion, conclusions, line_equation, cited_equation, named_equation, as_read, AgreeOutside, IsStepBy, IsRightStep, AreRightSteps, AreRightLemmas, IsValidProof, AllDerived}
-use Rattle.etp_theory.proofs.Trees.{put_at_sub, put_at_put, some-eq}
+use Rattle.etp_theory.specs.Proofs.{ProofStep, Lemma, last_term, conclusion, line_equation, cited_equation, named_equation, as_read, AgreeOutside, IsStepBy, AreRightSteps, AreRightLemmas, IsValidProof, AllDerived}
+use Rattle.etp_theory.proofs.Trees.{put_at_sub, put_at_put}
 use Rattle.etp_theory.proofs.Derivations.{derives_itself, substituted, chained, inside}
 use Rattle.etp_theory.proofs.Sameness.{same_forth}
 

@@ -1,10 +1,10 @@
 -- Reach and cover over a list of facts.
-use Rattle.std.proofs.Common.{◌≡◌, ℕ, zero, suc, ◌⊎◌, inl, inr, List, [], ◌∷◌, ◌++◌, Contains, Option, Some, None, slice_get, refl, sym, ap, ◌∙◌, subst, subst₂}
+use Rattle.std.proofs.lemmas.List.Elements.{Contains-append_left, Contains-push, Contains-push_cases}
+use Rattle.std.proofs.Common.{arith, ◌≡◌, ℕ, ◌⊎◌, inl, inr, List, [], ◌∷◌, ◌++◌, Contains, Some, refl, sym, ap, ◌∙◌, subst, subst₂}
 use Rattle.etp_theory.specs.Trees.{Equation, law_dual}
-use Rattle.etp_theory.specs.Sameness.{Same}
 use Rattle.etp_theory.specs.Derivations.{Derives}
 use Rattle.etp_theory.specs.Reach.{Fact, implies, refutes, dual_number, Edge, plain_edge, dual_edge, RefutingPair, plain_pair, dual_pair, Reach, itself, along, Covers}
-use Rattle.etp_theory.specs.FactsRight.{law_numbered, Implies, Refutes, IsRightFact, AreDualNumbers, AreRightFacts}
+use Rattle.etp_theory.specs.FactsRight.{law_numbered, Implies, Refutes, AreRightFacts}
 use Rattle.etp_theory.proofs.Derivations.{derives_itself, chained, dualised, undualised}
 use Rattle.etp_theory.proofs.Sameness.{same_derives}
 
@@ -98,3 +98,148 @@ module _ (laws : List Equation) (duals : List ℕ) (facts : List Fact) (right : 
       let i = pair_refutes c.holds c.fails c.pair in
       let path = reach_then duals facts c.before (reach_then duals facts r c.after) in
       i.apart (reach_derives path i.holding i.failing i.holding_listed i.failing_listed)
+
+-- a path along edges of any kind
+pub data Path (edges : ℕ → ℕ → Type 0) : ℕ → ℕ → Type 0 where
+  no_edge : (e : ℕ) → Path edges e e
+  one_more : {e f g : ℕ} → edges e f → Path edges f g → Path edges e g
+
+-- with one edge more
+abbrev pub WithEdge : (ℕ → ℕ → Type 0) → ℕ → ℕ → ℕ → ℕ → Type 0
+WithEdge edges a b e f = edges e f ⊎ ((e ≡ a) × (f ≡ b))
+
+-- a way, or a way to the new edge and a way from it
+abbrev pub Joined : (ℕ → ℕ → Type 0) → ℕ → ℕ → ℕ → ℕ → Type 0
+Joined ways a b e f = ways e f ⊎ (ways e a × ways b f)
+
+pub path_wider : {edges more : ℕ → ℕ → Type 0} → ((e f : ℕ) → edges e f → more e f) → {e f : ℕ} → Path edges e f → Path more e f
+path_wider h (no_edge e) = no_edge e
+path_wider h (one_more d r) = one_more (h _ _ d) (path_wider h r)
+
+pub path_then : {edges : ℕ → ℕ → Type 0} {e f g : ℕ} → Path edges e f → Path edges f g → Path edges e g
+path_then (no_edge e) s = s
+path_then (one_more d r) s = one_more d (path_then r s)
+
+module _ (edges : ℕ → ℕ → Type 0) (a b : ℕ) where
+  -- no path needs the new edge twice
+  pub path_split : {e f : ℕ} → Path (WithEdge edges a b) e f → Joined (Path edges) a b e f
+  path_split (no_edge e) = inl (no_edge e)
+  path_split (one_more {e = e} {f = f} {g = g} (inl d) r) = go (path_split r)
+    where
+      go : Joined (Path edges) a b f g → Joined (Path edges) a b e g
+      go (inl p) = inl (one_more d p)
+      go (inr p) = inr (one_more d p.0, p.1)
+  path_split (one_more {e = e} {f = f} {g = g} (inr q) r) = go (path_split r)
+    where
+      here : Path edges e a
+      here = subst (Path edges e) q.0 (no_edge e)
+
+      go : Joined (Path edges) a b f g → Joined (Path edges) a b e g
+      go (inl p) = inr (here, subst (λ z. Path edges z g) q.1 p)
+      go (inr p) = inr (here, p.1)
+
+  pub path_joined : {e f : ℕ} → Joined (Path edges) a b e f → Path (WithEdge edges a b) e f
+  path_joined (inl p) = path_wider (λ e f d. inl d) p
+  path_joined (inr p) = path_then (path_wider (λ e f d. inl d) p.0) (one_more (inr (refl, refl)) (path_wider (λ e f d. inl d) p.1))
+
+pub path_of_reach : (duals : List ℕ) (facts : List Fact) {e f : ℕ} → Reach duals facts e f → Path (Edge duals facts) e f
+path_of_reach duals facts (itself e) = no_edge e
+path_of_reach duals facts (along d r) = one_more d (path_of_reach duals facts r)
+
+pub reach_of_path : (duals : List ℕ) (facts : List Fact) {e f : ℕ} → Path (Edge duals facts) e f → Reach duals facts e f
+reach_of_path duals facts (no_edge e) = itself e
+reach_of_path duals facts (one_more d r) = along d (reach_of_path duals facts r)
+
+implies_eq : {a b e f : ℕ} → implies a b ≡ implies e f → (e ≡ a) × (f ≡ b)
+implies_eq h = (let q : _ ≡ _ = cc in q, let q : _ ≡ _ = cc in q)
+
+module _ (duals : List ℕ) (facts : List Fact) (a b : ℕ) where
+  -- the edges of one more implication: its own and its dual's
+  pub edge_split : {e f : ℕ} → Edge duals (facts ++ (implies a b ∷ [])) e f → WithEdge (WithEdge (Edge duals facts) a b) (dual_number duals a) (dual_number duals b) e f
+  edge_split (plain_edge {e = e} {f = f} h) = go (Contains-push_cases facts (implies a b) (implies e f) h)
+    where
+      go : Contains facts (implies e f) ⊎ (implies a b ≡ implies e f) → WithEdge (WithEdge (Edge duals facts) a b) (dual_number duals a) (dual_number duals b) e f
+      go (inl k) = inl (inl (plain_edge k))
+      go (inr k) = inl (inr (implies_eq k))
+  edge_split (dual_edge {e = e} {f = f} c d h p q) = go (Contains-push_cases facts (implies a b) (implies c d) h)
+    where
+      go : Contains facts (implies c d) ⊎ (implies a b ≡ implies c d) → WithEdge (WithEdge (Edge duals facts) a b) (dual_number duals a) (dual_number duals b) e f
+      go (inl k) = inl (inl (dual_edge c d k p q))
+      go (inr k) = let z = implies_eq k in inr (p ∙ ap (dual_number duals) z.0, q ∙ ap (dual_number duals) z.1)
+
+  pub edge_joined : {e f : ℕ} → WithEdge (WithEdge (Edge duals facts) a b) (dual_number duals a) (dual_number duals b) e f → Edge duals (facts ++ (implies a b ∷ [])) e f
+  edge_joined (inl (inl d)) = edge_more duals facts (facts ++ (implies a b ∷ [])) (λ x. Contains-append_left facts (implies a b ∷ []) x) d
+  edge_joined {e} {f} (inl (inr q)) = subst₂ (Edge duals (facts ++ (implies a b ∷ []))) (sym q.0) (sym q.1) (plain_edge (Contains-push facts (implies a b)))
+  edge_joined {e} {f} (inr q) = dual_edge a b (Contains-push facts (implies a b)) q.0 q.1
+
+  -- one more implication joins along its own edge, and then along its dual's
+  pub reach_split : {e f : ℕ} → Reach duals (facts ++ (implies a b ∷ [])) e f → Joined (Joined (Reach duals facts) a b) (dual_number duals a) (dual_number duals b) e f
+  reach_split r = outer (path_split _ (dual_number duals a) (dual_number duals b) (path_wider (λ e f d. edge_split d) (path_of_reach duals (facts ++ (implies a b ∷ [])) r)))
+    where
+      inner : {e f : ℕ} → Path (WithEdge (Edge duals facts) a b) e f → Joined (Reach duals facts) a b e f
+      inner p = elim (path_split (Edge duals facts) a b p) [ inl q ↦ inl (reach_of_path duals facts q) | inr q ↦ inr (reach_of_path duals facts q.0, reach_of_path duals facts q.1) ]
+
+      outer : {e f : ℕ} → Joined (Path (WithEdge (Edge duals facts) a b)) (dual_number duals a) (dual_number duals b) e f → Joined (Joined (Reach duals facts) a b) (dual_number duals a) (dual_number duals b) e f
+      outer (inl p) = inl (inner p)
+      outer (inr p) = inr (inner p.0, inner p.1)
+
+  pub reach_joined : {e f : ℕ} → Joined (Joined (Reach duals facts) a b) (dual_number duals a) (dual_number duals b) e f → Reach duals (facts ++ (implies a b ∷ [])) e f
+  reach_joined j = whole j
+    where
+      more : List Fact
+      more = facts ++ (implies a b ∷ [])
+
+      kept : {e f : ℕ} → Reach duals facts e f → Reach duals (facts ++ (implies a b ∷ [])) e f
+      kept r = reach_more duals facts (facts ++ (implies a b ∷ [])) (λ x. Contains-append_left facts (implies a b ∷ []) x) r
+
+      inner : {e f : ℕ} → Joined (Reach duals facts) a b e f → Reach duals (facts ++ (implies a b ∷ [])) e f
+      inner (inl r) = kept r
+      inner (inr r) = reach_then duals _ (kept r.0) (along (edge_joined (inl (inr (refl, refl)))) (kept r.1))
+
+      whole : {e f : ℕ} → Joined (Joined (Reach duals facts) a b) (dual_number duals a) (dual_number duals b) e f → Reach duals (facts ++ (implies a b ∷ [])) e f
+      whole (inl k) = inner k
+      whole (inr k) = reach_then duals _ (inner k.0) (along (edge_joined (inr (refl, refl))) (inner k.1))
+
+  -- an implication gives no refuting pair
+  pub pair_kept : {e f : ℕ} → RefutingPair duals (facts ++ (implies a b ∷ [])) e f → RefutingPair duals facts e f
+  pair_kept (plain_pair {e = e} {f = f} hs fs h p q) = go (Contains-push_cases facts (implies a b) (refutes hs fs) h)
+    where
+      go : Contains facts (refutes hs fs) ⊎ (implies a b ≡ refutes hs fs) → RefutingPair duals facts e f
+      go (inl k) = plain_pair hs fs k p q
+      go (inr k) = absurd (cc)
+  pair_kept (dual_pair {e = e} {f = f} hs fs c d h p q r s) = go (Contains-push_cases facts (implies a b) (refutes hs fs) h)
+    where
+      go : Contains facts (refutes hs fs) ⊎ (implies a b ≡ refutes hs fs) → RefutingPair duals facts e f
+      go (inl k) = dual_pair hs fs c d k p q r s
+      go (inr k) = absurd (cc)
+
+module _ (duals : List ℕ) (facts : List Fact) (holds fails : List ℕ) where
+  -- a refutation gives no edge
+  pub edge_kept : {e f : ℕ} → Edge duals (facts ++ (refutes holds fails ∷ [])) e f → Edge duals facts e f
+  edge_kept (plain_edge {e = e} {f = f} h) = go (Contains-push_cases facts (refutes holds fails) (implies e f) h)
+    where
+      go : Contains facts (implies e f) ⊎ (refutes holds fails ≡ implies e f) → Edge duals facts e f
+      go (inl k) = plain_edge k
+      go (inr k) = absurd (cc)
+  edge_kept (dual_edge {e = e} {f = f} c d h p q) = go (Contains-push_cases facts (refutes holds fails) (implies c d) h)
+    where
+      go : Contains facts (implies c d) ⊎ (refutes holds fails ≡ implies c d) → Edge duals facts e f
+      go (inl k) = dual_edge c d k p q
+      go (inr k) = absurd (cc)
+
+  pub reach_kept : {e f : ℕ} → Reach duals (facts ++ (refutes holds fails ∷ [])) e f → Reach duals facts e f
+  reach_kept (itself e) = itself e
+  reach_kept (along d r) = along (edge_kept d) (reach_kept r)
+
+-- no facts give no edge and no refuting pair
+pub reach_nothing : (duals : List ℕ) {e f : ℕ} → Reach duals [] e f → e ≡ f
+reach_nothing duals (itself e) = refl
+reach_nothing duals (along (plain_edge h) r) = absurd (let l = h.1 in omega arith)
+reach_nothing duals (along (dual_edge a b h p q) r) = absurd (let l = h.1 in omega arith)
+
+pub covers_nothing : (duals : List ℕ) {e f : ℕ} → Covers duals [] e f → ⊥
+covers_nothing duals c = go c.pair
+  where
+    go : RefutingPair duals [] c.holds c.fails → ⊥
+    go (plain_pair hs fs h p q) = let l = h.1 in omega arith
+    go (dual_pair hs fs a b h p q r s) = let l = h.1 in omega arith

@@ -1,5 +1,5 @@
 -- A substitution that another one undoes changes no walk but by itself.
-use Rattle.std.proofs.Common.{◌≡◌, ◌≢◌, ℕ, zero, suc, ◌<◌, ◌≤◌, ◌+◌, ◌⊎◌, inl, inr, Bool, true, false, cond, List, [], ◌∷◌, Option, Some, None, slice_get, refl, sym, ap, ap₂, ◌∙◌, subst, subst₂, arith}
+use Rattle.std.proofs.Common.{◌≡◌, ℕ, zero, suc, ◌≤◌, cond, List, [], ◌∷◌, Option, Some, None, slice_get, refl, sym, ap, ap₂, ◌∙◌, subst, subst₂, arith}
 use Rattle.etp_theory.specs.Trees.{Tree, var, op, leaves, Occurs, Equation}
 use Rattle.etp_theory.specs.Substitutions.{apply, then_apply, Partial, total, raise}
 use Rattle.etp_theory.specs.Positions.{put_at}

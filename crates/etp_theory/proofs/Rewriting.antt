@@ -1,9 +1,9 @@
-use Rattle.std.proofs.Common.{◌≡◌, ℕ, List, [], ◌∷◌, Option, Some, None, slice_get, refl, sym, ap, ap₂, ◌∙◌, subst, subst₂}
+use Rattle.std.proofs.Common.{◌≡◌, ℕ, List, [], ◌∷◌, Some, slice_get, refl, ap, ◌∙◌}
 use Rattle.etp_theory.specs.Trees.{Tree, var, op, Equation}
 use Rattle.etp_theory.specs.Substitutions.{apply, then_apply}
 use Rattle.etp_theory.specs.Positions.{Side, to_left, to_right, sub_at, put_at}
 use Rattle.etp_theory.specs.Rewriting.{Step, at_root, in_left, in_right, StepAt, Steps, stop, more, Joinable}
-use Rattle.etp_theory.proofs.Trees.{composed, some-eq, sub_at_put}
+use Rattle.etp_theory.proofs.Trees.{composed, some-eq}
 
 module _ (rules : List Equation) where
   -- the two ways to say one rewriting agree

@@ -1,9 +1,9 @@
 -- A round of unification leaves fewer variables.
-use Rattle.std.proofs.Common.{◌≡◌, ◌≢◌, ℕ, zero, suc, ◌<◌, ◌≤◌, ◌+◌, ◌-◌, max, ◌⊎◌, inl, inr, Bool, true, false, cond, eqb, refl, sym, ap, ap₂, ◌∙◌, subst, arith, eqb-true, eq-eqb, Option, Some}
+use Rattle.std.proofs.Common.{◌≡◌, ℕ, zero, suc, ◌<◌, ◌≤◌, ◌+◌, ◌-◌, max, ◌⊎◌, inl, inr, Bool, true, false, cond, eqb, refl, sym, ap, ◌∙◌, subst, arith, eqb-true, eq-eqb}
 use Rattle.etp_theory.specs.Trees.{Tree, var, op, bound, Occurs}
 use Rattle.etp_theory.specs.Substitutions.{apply}
-use Rattle.etp_theory.specs.Unifiers.{Difference, difference, single, has, count_to, remaining}
-use Rattle.etp_theory.proofs.Unifiers.{Facts, difference_facts, put, put_occurs, instance_occurs, occurs_bound}
+use Rattle.etp_theory.specs.Unifiers.{Difference, single, has, count_to, remaining}
+use Rattle.etp_theory.proofs.Unifiers.{Facts, put, put_occurs, instance_occurs, occurs_bound}
 
 has_of : (v : ℕ) (t : Tree) → Occurs v t → has v t ≡ true
 has_of v (var x) o = eq-eqb x v o

@@ -1,8 +1,8 @@
 -- Lists of values are all assignments.
-use Rattle.std.proofs.Common.{◌≡◌, ℕ, zero, suc, ◌<◌, ◌≤◌, max, Bool, true, false, cond, ltb, List, [], ◌∷◌, length, get_or, refl, sym, ap, ap₂, ◌∙◌, subst, arith, lt-ltb, ltb-true}
+use Rattle.std.proofs.Common.{◌≡◌, ℕ, zero, suc, ◌<◌, ◌≤◌, Bool, true, false, cond, ltb, List, [], ◌∷◌, length, get_or, refl, sym, ap, ap₂, ◌∙◌, subst, arith, lt-ltb, ltb-true}
 use Rattle.etp_theory.specs.Trees.{Tree, var, op, bound, Equation}
 use Rattle.etp_theory.specs.Magmas.{meaning, Holds}
-use Rattle.etp_theory.specs.Tables.{HoldsInLists, IsAssignment, assigned, below}
+use Rattle.etp_theory.specs.Tables.{HoldsInLists, assigned, below}
 
 -- the value of a term looks at its variables alone
 meaning_agree : {A : Type 0} (times : A → A → A) (r s : ℕ → A) (k : ℕ) (t : Tree) → bound t ≤ k → ((v : ℕ) → v < k → r v ≡ s v) → meaning times r t ≡ meaning times s t

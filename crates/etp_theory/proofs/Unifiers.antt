@@ -1,10 +1,10 @@
-use Rattle.std.proofs.Common.{◌≡◌, ◌≢◌, ℕ, zero, suc, ◌<◌, ◌≤◌, ◌+◌, max, ◌⊎◌, inl, inr, Bool, true, false, cond, eqb, ltb, List, [], ◌∷◌, length, Option, Some, None, refl, sym, ap, ap₂, ◌∙◌, subst, subst₂, arith, eqb-true, eq-eqb, ne_eqb, lt-ltb, le-ltb, ltb-false}
+use Rattle.std.proofs.Common.{◌≡◌, ◌≢◌, ℕ, zero, suc, ◌<◌, ◌≤◌, max, ◌⊎◌, inl, inr, Bool, true, false, cond, eqb, ltb, List, [], ◌∷◌, length, Option, Some, None, refl, sym, ap, ap₂, ◌∙◌, subst, arith, eqb-true, eq-eqb, ne_eqb, le-ltb, ltb-false}
 use Rattle.etp_theory.specs.Trees.{Tree, var, op, ops, bound, Occurs}
 use Rattle.etp_theory.specs.Substitutions.{apply, then_apply, Partial, value_or, total}
 use Rattle.etp_theory.specs.Unifiers.{IsMostGeneral, IsMostGeneralPartial, IsBest, single, Difference, difference}
 use Rattle.etp_theory.specs.Strategy.{first_some}
-use Rattle.etp_theory.proofs.Trees.{composed, identity}
-use Rattle.etp_theory.proofs.Matching.{apply_agree, agree_of_apply}
+use Rattle.etp_theory.proofs.Trees.{composed}
+use Rattle.etp_theory.proofs.Matching.{apply_agree}
 
 pub apply_same : (m n : ℕ → Tree) → ((v : ℕ) → m v ≡ n v) → (t : Tree) → apply m t ≡ apply n t
 apply_same m n h t = apply_agree m n t (λ v o. h v)

@@ -1,5 +1,4 @@
 -- Derivations whose instances are taken by finite partial maps in place of total functions.
-use Rattle.std.specs.Prelude.{ℕ}
 use Rattle.etp_theory.specs.Trees.{Tree, op, Equation}
 use Rattle.etp_theory.specs.Substitutions.{apply, Partial, total}
 

@@ -19,3 +19,4 @@ pub mod Proofs
 pub mod Reach
 pub mod FactsRight
 pub mod Theorems
+pub mod Examples

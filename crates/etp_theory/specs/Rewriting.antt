@@ -1,5 +1,5 @@
 -- Rewriting by a list of rules.
-use Rattle.std.specs.Prelude.{◌≡◌, ℕ, List, Option, Some, slice_get}
+use Rattle.std.specs.Prelude.{◌≡◌, ℕ, List, Some, slice_get}
 use Rattle.etp_theory.specs.Trees.{Tree, op, Equation}
 use Rattle.etp_theory.specs.Substitutions.{apply}
 use Rattle.etp_theory.specs.Positions.{Side, sub_at, put_at}

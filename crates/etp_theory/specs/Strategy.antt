@@ -1,5 +1,5 @@
 -- The step of a term by the strategy, the walk, and its end.
-use Rattle.std.specs.Prelude.{◌≡◌, ℕ, zero, suc, Bool, true, false, cond, eqb, List, [], ◌∷◌, Option, Some, None}
+use Rattle.std.specs.Prelude.{ℕ, zero, suc, Bool, true, false, cond, eqb, List, [], ◌∷◌, Option, Some, None}
 use Rattle.etp_theory.specs.Trees.{Tree, var, op, Equation}
 use Rattle.etp_theory.specs.Substitutions.{apply, value_or}
 use Rattle.etp_theory.specs.Positions.{Side, to_left, to_right}

@@ -1,7 +1,7 @@
 -- The theorems, as the contracts name them. Substitutions are total functions, but where `Partial`
 -- stands.
-use Rattle.std.specs.Prelude.{◌≡◌, ◌≢◌, ℕ, suc, ◌<◌, ◌≤◌, ◌↔◌, ◌⊎◌, Bool, IsTrue, List, [], slice_get, Option, Some, None}
-use Rattle.etp_theory.specs.Trees.{Tree, var, op, dual, law_dual, renamed, bound, Equation}
+use Rattle.std.specs.Prelude.{◌≡◌, ◌≢◌, ℕ, ◌<◌, ◌≤◌, ◌↔◌, ◌⊎◌, Bool, IsTrue, List, [], slice_get, Some, None}
+use Rattle.etp_theory.specs.Trees.{Tree, var, dual, law_dual, renamed, bound, Equation}
 use Rattle.etp_theory.specs.Substitutions.{apply, then_apply, Partial, total}
 use Rattle.etp_theory.specs.Positions.{Side, sub_at, put_at}
 use Rattle.etp_theory.specs.Sameness.{Same}
@@ -112,11 +112,16 @@ pub record StrategyLaws : Type 0 where
   pub fired_at : (rules : List Equation) (s : Tree) (x : Fired) → fired rules s ≡ Some x
       → (h : StepAt rules s x.to) × (h.number ≡ x.number) × (h.position ≡ x.position)
 
--- decreasing rules that are locally confluent give one normal form (Newman 1942)
+-- decreasing rules that are locally confluent give one normal form (Newman 1942); `next` has no step
+-- of a term exactly where none is there, so this is the form of the strategy's walk
 pub record NewmanLaws : Type 0 where
   pub confluent : (w : Weight) (rules : List Equation) → AllDecrease w rules
       → IsLocallyConfluent rules
       → (s a b : Tree) → Steps rules s a → Steps rules s b → Joinable rules a b
+  pub unique : (w : Weight) (rules : List Equation) → AllDecrease w rules
+      → IsLocallyConfluent rules
+      → (s a : Tree) → Steps rules s a → ((t : Tree) → Step rules a t → ⊥)
+      → normal_form w rules s ≡ a
   pub one_form : (w : Weight) (rules : List Equation) → AllDecrease w rules
       → IsLocallyConfluent rules
       → (s t : Tree) → Convertible rules s t → normal_form w rules s ≡ normal_form w rules t
@@ -127,8 +132,8 @@ pub record UnificationLaws : Type 0 where
   -- a most general one that is itself when applied twice, or none
   pub decided : (a b : Tree)
       → ((m : Partial) × IsMostGeneralPartial m a b
-          × ((v : ℕ) → apply (total m) (total m v) ≡ total m v))
-        ⊎ NoUnifier a b
+      × ((v : ℕ) → apply (total m) (total m v) ≡ total m v))
+      ⊎ NoUnifier a b
 
 pub record CriticalPairLaws : Type 0 where
   pub joined : (w : Weight) (rules : List Equation) → AllDecrease w rules
@@ -153,7 +158,7 @@ pub record NormalFormLaws : Type 0 where
       → IsClosed (is_normal rules) (normal_op w rules)
   pub holds : (w : Weight) (rules : List Equation) → IsConvergent w rules → (e : Equation)
       → Holds (is_normal rules) (normal_op w rules) e.left e.right
-        ↔ (normal_form w rules e.left ≡ normal_form w rules e.right)
+      ↔ (normal_form w rules e.left ≡ normal_form w rules e.right)
   pub refuted : (w : Weight) (rules : List Equation) → IsConvergent w rules → (e f : Equation)
       → normal_form w rules e.left ≡ normal_form w rules e.right
       → normal_form w rules f.left ≢ normal_form w rules f.right → Derives e f → ⊥

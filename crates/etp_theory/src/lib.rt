@@ -4,9 +4,10 @@
 
 mod magma;
 
-pub use magma::{Magma, keeps_derived};
-
+ghost use Rattle.etp_theory.specs.Examples.{Examples};
 ghost use Rattle.etp_theory.specs.Theorems.{SubstitutionLaws, PositionLaws, DualLaws, SamenessLaws, DerivationLaws, ProofLaws, MagmaLaws, TableLaws, RewritingLaws, StrategyLaws, NewmanLaws, UnificationLaws, CriticalPairLaws, NormalFormLaws, ReachLaws};
+
+pub use magma::{Magma, keeps_derived};
 
 /// Substitutions are total functions from variables to terms; finite partial maps do the same on
 /// any two terms.
@@ -82,4 +83,9 @@ pub fn normal_form_laws()
 /// What accepted proofs and refutations say of all pairs of laws.
 pub fn reach_laws()
     ensures { ReachLaws }
+{}
+
+/// Small laws and systems at which the definitions are computed.
+pub fn worked_examples()
+    ensures { Examples }
 {}
