@@ -1,12 +1,14 @@
 -- Right steps and lemmas unfold into derivations.
-use Rattle.std.proofs.Common.{◌≡◌, ℕ, zero, suc, ◌⊎◌, inl, inr, Bool, true, false, cond, List, [], ◌∷◌, ◌++◌, Some, slice_get, refl, sym, ◌∙◌, subst}
+use Rattle.std.proofs.Common.{ap, ◌≡◌, ℕ, zero, suc, ◌⊎◌, inl, inr, Bool, true, false, cond, List, [], ◌∷◌, ◌++◌, Some, slice_get, refl, sym, ◌∙◌, subst}
 use Rattle.etp_theory.specs.Trees.{Tree, Equation}
+use Rattle.etp_theory.specs.Substitutions.{apply, Partial, total}
 use Rattle.etp_theory.specs.Positions.{Side, sub_at, put_at}
 use Rattle.etp_theory.specs.Derivations.{Concludes, reflexive, symmetric, transitive, Derives}
 use Rattle.etp_theory.specs.Proofs.{ProofStep, Lemma, last_term, conclusion, line_equation, cited_equation, named_equation, as_read, AgreeOutside, IsStepBy, AreRightSteps, AreRightLemmas, IsValidProof, AllDerived}
-use Rattle.etp_theory.proofs.Trees.{put_at_sub, put_at_put}
+use Rattle.etp_theory.proofs.Trees.{sub_at_put, put_at_sub, put_at_put}
 use Rattle.etp_theory.proofs.Derivations.{derives_itself, substituted, chained, inside}
 use Rattle.etp_theory.proofs.Sameness.{same_forth}
+use Rattle.etp_theory.proofs.Finite.{finite_enough}
 
 -- what agrees outside the position with a term that has `v` there is that term with `v` put there
 pub agree_put : (p : List Side) (s t v : Tree) → AgreeOutside p s t → sub_at p t ≡ Some v → t ≡ put_at p s v
@@ -14,6 +16,21 @@ agree_put p s t v h k = sym (put_at_sub p t v k) ∙ sym (h v)
 
 pub put_agrees : (p : List Side) (s v : Tree) → AgreeOutside p s (put_at p s v)
 put_agrees p s v u = sym (put_at_put p s v u)
+
+-- the step's substitution may be taken as a finite partial map
+pub step_partial : (e : Equation) (p : List Side) (s t : Tree) → IsStepBy e p s t → (m : Partial) × (sub_at p s ≡ Some (apply (total m) e.left)) × (sub_at p t ≡ Some (apply (total m) e.right))
+step_partial e p s t x = let m = finite_enough x.by e.left e.right in (m.0, x.before ∙ ap Some (sym m.1), x.after ∙ ap Some (sym m.2))
+
+pub step_replaces : (e : Equation) (p : List Side) (s t : Tree) → IsStepBy e p s t → (m : ℕ → Tree) × (sub_at p s ≡ Some (apply m e.left)) × (t ≡ put_at p s (apply m e.right))
+step_replaces e p s t x = (x.by, x.before, agree_put p s t _ x.outside x.after)
+
+pub replaced_step : (e : Equation) (p : List Side) (s t : Tree) → (m : ℕ → Tree) × (sub_at p s ≡ Some (apply m e.left)) × (t ≡ put_at p s (apply m e.right)) → IsStepBy e p s t
+replaced_step e p s t x = record {
+  by = x.0;
+  before = x.1;
+  after = ap (sub_at p) x.2 ∙ sub_at_put p s _ (apply x.0 e.right) x.1;
+  outside = subst (AgreeOutside p s) (sym x.2) (put_agrees p s (apply x.0 e.right));
+}
 
 line_derived : (e : Equation) (earlier : List Equation) → AllDerived e earlier → (k : ℕ) (c : Equation) → line_equation e earlier k ≡ Some c → Derives e c
 line_derived e earlier h zero c q = subst (Derives e) (let f : e ≡ c = cc in f) (derives_itself e)

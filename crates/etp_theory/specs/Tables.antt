@@ -1,5 +1,5 @@
 -- Finite magmas on 0 to n - 1.
-use Rattle.std.specs.Prelude.{◌≡◌, ℕ, ◌<◌, Bool, ltb, List, length, get_or}
+use Rattle.std.specs.Prelude.{◌≡◌, ℕ, ◌<◌, ◌+◌, ◌*◌, ◌^◌, Bool, ltb, List, [], ◌∷◌, length, get_or}
 use Rattle.etp_theory.specs.Trees.{Equation}
 use Rattle.etp_theory.specs.Magmas.{meaning}
 
@@ -15,6 +15,11 @@ assigned xs v = get_or xs v 0
 pub record IsAssignment (k n : ℕ) (xs : List ℕ) : Type 0 where
   pub count : length xs ≡ k
   pub each : (i : ℕ) → i < k → get_or xs i 0 < n
+
+-- the place of an assignment in lexicographic order, from 0: its values are the digits to base `n`
+abbrev pub place_of : ℕ → List ℕ → ℕ
+place_of n [] = 0
+place_of n (x ∷ xs) = x * n ^ length xs + place_of n xs
 
 -- the law holds at every list of `k` values below `n`
 abbrev pub HoldsInLists : ℕ → ℕ → (ℕ → ℕ → ℕ) → Equation → Type 0

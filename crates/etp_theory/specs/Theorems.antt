@@ -1,6 +1,9 @@
 -- The theorems, as the contracts name them. Substitutions are total functions, but where `Partial`
 -- stands.
-use Rattle.std.specs.Prelude.{◌≡◌, ◌≢◌, ℕ, ◌<◌, ◌≤◌, ◌↔◌, ◌⊎◌, Bool, IsTrue, List, [], slice_get, Some, None}
+use Rattle.std.specs.Prelude.{◌^◌, ◌≡◌, ◌≢◌, ℕ, ◌<◌, ◌≤◌, ◌↔◌, ◌⊎◌, Bool, IsTrue, List, [], slice_get, Some, None}
+use Rattle.std.specs.Ordering.{nat_cmp}
+use Rattle.std.specs.Cmp.Lexicographic.{slice_cmp}
+use Rattle.std.specs.declared.cmp.Ordering.TheVariants.{Less}
 use Rattle.etp_theory.specs.Trees.{Tree, var, dual, law_dual, renamed, bound, Equation}
 use Rattle.etp_theory.specs.Substitutions.{apply, then_apply, Partial, total}
 use Rattle.etp_theory.specs.Positions.{Side, sub_at, put_at}
@@ -8,14 +11,14 @@ use Rattle.etp_theory.specs.Sameness.{Same}
 use Rattle.etp_theory.specs.Derivations.{Concludes, Derives}
 use Rattle.etp_theory.specs.FiniteDerivations.{ConcludesPartial}
 use Rattle.etp_theory.specs.Magmas.{meaning, IsClosed, Holds}
-use Rattle.etp_theory.specs.Tables.{HoldsInLists, IsAssignment, assigned, below}
+use Rattle.etp_theory.specs.Tables.{HoldsInLists, place_of, IsAssignment, assigned, below}
 use Rattle.etp_theory.specs.Rewriting.{Step, StepAt, Steps, Joinable, Convertible, IsLocallyConfluent}
 use Rattle.etp_theory.specs.Weights.{Weight, weigh, AllDecrease}
 use Rattle.etp_theory.specs.Strategy.{next, within, Fired, fired, normal_form, is_normal, normal_op}
 use Rattle.etp_theory.specs.Forms.{HaveOneForm}
 use Rattle.etp_theory.specs.Unifiers.{IsMostGeneral, IsMostGeneralPartial, NoUnifier}
 use Rattle.etp_theory.specs.Overlaps.{Overlap, outer_part, inner_part, left_result, right_result, PairPasses, PairsJoin, HasSmallVariables, IsConvergent}
-use Rattle.etp_theory.specs.Proofs.{Lemma, conclusion, AreRightLemmas, IsValidProof, AllDerived}
+use Rattle.etp_theory.specs.Proofs.{IsStepBy, Lemma, conclusion, AreRightLemmas, IsValidProof, AllDerived}
 use Rattle.etp_theory.specs.Reach.{Fact, Reach, Covers}
 use Rattle.etp_theory.specs.FactsRight.{law_numbered, AreRightFacts}
 
@@ -64,6 +67,14 @@ pub record DerivationLaws : Type 0 where
 
 -- lemmas, steps and cited laws unfold into derivations
 pub record ProofLaws : Type 0 where
+  -- the substitution of a right step may be taken as a finite partial map
+  pub partial : (e : Equation) (p : List Side) (s t : Tree) → IsStepBy e p s t
+      → (m : Partial) × (sub_at p s ≡ Some (apply (total m) e.left))
+      × (sub_at p t ≡ Some (apply (total m) e.right))
+  -- it puts the one side in the place of the other, and changes nothing else
+  pub replaced : (e : Equation) (p : List Side) (s t : Tree) → IsStepBy e p s t
+      ↔ ((m : ℕ → Tree) × (sub_at p s ≡ Some (apply m e.left))
+      × (t ≡ put_at p s (apply m e.right)))
   pub concluded : (hypothesis : Equation) (cites : List Equation) (lemmas : List Lemma)
       → AllDerived hypothesis cites → AreRightLemmas hypothesis cites [] lemmas
       → (k : ℕ) (l : Lemma) → slice_get lemmas k ≡ Some l → Derives hypothesis (conclusion l)
@@ -83,6 +94,13 @@ pub record MagmaLaws : Type 0 where
       → meaning times r f.left ≢ meaning times r f.right → Derives e f → ⊥
 
 pub record TableLaws : Type 0 where
+  -- the lexicographic order of assignments is that of their places, which are the numbers below
+  -- the power
+  pub place_below : (k n : ℕ) (xs : List ℕ) → IsAssignment k n xs → place_of n xs < n ^ k
+  pub place_taken : (k n i : ℕ) → i < n ^ k
+      → (xs : List ℕ) × IsAssignment k n xs × (place_of n xs ≡ i)
+  pub in_order : (k n : ℕ) (xs ys : List ℕ) → IsAssignment k n xs → IsAssignment k n ys
+      → (slice_cmp nat_cmp xs ys ≡ Less) ↔ (place_of n xs < place_of n ys)
   -- lists of values for the variables are all assignments
   pub lists : (k n : ℕ) (times : ℕ → ℕ → ℕ) (e : Equation)
       → 0 < k → bound e.left ≤ k → bound e.right ≤ k

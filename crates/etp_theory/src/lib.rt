@@ -3,6 +3,8 @@
 #![tactic(auto)]
 
 mod magma;
+#[cfg(test)]
+mod tests;
 
 ghost use Rattle.etp_theory.specs.Examples.{Examples};
 ghost use Rattle.etp_theory.specs.Theorems.{SubstitutionLaws, PositionLaws, DualLaws, SamenessLaws, DerivationLaws, ProofLaws, MagmaLaws, TableLaws, RewritingLaws, StrategyLaws, NewmanLaws, UnificationLaws, CriticalPairLaws, NormalFormLaws, ReachLaws};
