@@ -57,3 +57,9 @@ module _ (w : Weight) (rules : List Equation) where
 
   pub refuted : IsConvergent w rules → (e f : Equation) → normal_form w rules e.left ≡ normal_form w rules e.right → normal_form w rules f.left ≢ normal_form w rules f.right → Derives e f → ⊥
   refuted c e f h k d = not_derived w rules c.decreasing (convergent_local c) e f h k d
+
+  pub refuted_within : IsConvergent w rules → (e f : Equation) → HaveOneForm rules e.left e.right → (u v : Tree) → IsFormOf rules f.left u → IsFormOf rules f.right v → u ≢ v → Derives e f → ⊥
+  refuted_within c e f h u v a b differ d =
+      let all = c.decreasing in
+      let same : normal_form w rules e.left ≡ normal_form w rules e.right = form_is all e.left h.form h.of_left ∙ sym (form_is all e.right h.form h.of_right) in
+      refuted c e f same (λ q. differ (sym (form_is all f.left u a) ∙ q ∙ form_is all f.right v b)) d

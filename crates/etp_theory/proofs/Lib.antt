@@ -1,4 +1,5 @@
 pub mod Trees
+pub mod Orders
 pub mod Derivations
 pub mod Sameness
 pub mod Proofs

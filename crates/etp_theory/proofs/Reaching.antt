@@ -1,10 +1,10 @@
 -- Reach and cover over a list of facts.
-use Rattle.std.proofs.lemmas.List.Elements.{Contains-append_left, Contains-push, Contains-push_cases}
+use Rattle.std.proofs.lemmas.List.Elements.{Contains-append_left, Contains-append_cases, Contains-push, Contains-push_cases}
 use Rattle.std.proofs.Common.{arith, ◌≡◌, ℕ, ◌⊎◌, inl, inr, List, [], ◌∷◌, ◌++◌, Contains, Some, refl, sym, ap, ◌∙◌, subst, subst₂}
 use Rattle.etp_theory.specs.Trees.{Equation, law_dual}
 use Rattle.etp_theory.specs.Derivations.{Derives}
 use Rattle.etp_theory.specs.Reach.{Fact, implies, refutes, dual_number, Edge, plain_edge, dual_edge, RefutingPair, plain_pair, dual_pair, Reach, itself, along, Covers}
-use Rattle.etp_theory.specs.FactsRight.{law_numbered, Implies, Refutes, AreRightFacts}
+use Rattle.etp_theory.specs.RightFacts.{law_numbered, Implies, Refutes, AreRightFacts}
 use Rattle.etp_theory.proofs.Derivations.{derives_itself, chained, dualised, undualised}
 use Rattle.etp_theory.proofs.Sameness.{same_derives}
 
@@ -99,6 +99,32 @@ module _ (laws : List Equation) (duals : List ℕ) (facts : List Fact) (right : 
       let path = reach_then duals facts c.before (reach_then duals facts r c.after) in
       i.apart (reach_derives path i.holding i.failing i.holding_listed i.failing_listed)
 
+-- the edges and the pairs of two lists of facts are those of the one and those of the other
+module _ (duals : List ℕ) (xs ys : List Fact) where
+  pub edge_either : {e f : ℕ} → Edge duals (xs ++ ys) e f → Edge duals xs e f ⊎ Edge duals ys e f
+  edge_either (plain_edge {e = e} {f = f} h) = go (Contains-append_cases xs ys (implies e f) h)
+    where
+      go : Contains xs (implies e f) ⊎ Contains ys (implies e f) → Edge duals xs e f ⊎ Edge duals ys e f
+      go (inl k) = inl (plain_edge k)
+      go (inr k) = inr (plain_edge k)
+  edge_either (dual_edge {e = e} {f = f} a b h p q) = go (Contains-append_cases xs ys (implies a b) h)
+    where
+      go : Contains xs (implies a b) ⊎ Contains ys (implies a b) → Edge duals xs e f ⊎ Edge duals ys e f
+      go (inl k) = inl (dual_edge a b k p q)
+      go (inr k) = inr (dual_edge a b k p q)
+
+  pub pair_either : {e f : ℕ} → RefutingPair duals (xs ++ ys) e f → RefutingPair duals xs e f ⊎ RefutingPair duals ys e f
+  pair_either (plain_pair {e = e} {f = f} hs fs h p q) = go (Contains-append_cases xs ys (refutes hs fs) h)
+    where
+      go : Contains xs (refutes hs fs) ⊎ Contains ys (refutes hs fs) → RefutingPair duals xs e f ⊎ RefutingPair duals ys e f
+      go (inl k) = inl (plain_pair hs fs k p q)
+      go (inr k) = inr (plain_pair hs fs k p q)
+  pair_either (dual_pair {e = e} {f = f} hs fs a b h p q r s) = go (Contains-append_cases xs ys (refutes hs fs) h)
+    where
+      go : Contains xs (refutes hs fs) ⊎ Contains ys (refutes hs fs) → RefutingPair duals xs e f ⊎ RefutingPair duals ys e f
+      go (inl k) = inl (dual_pair hs fs a b k p q r s)
+      go (inr k) = inr (dual_pair hs fs a b k p q r s)
+
 -- a path along edges of any kind
 pub data Path (edges : ℕ → ℕ → Type 0) : ℕ → ℕ → Type 0 where
   no_edge : (e : ℕ) → Path edges e e
@@ -186,9 +212,6 @@ module _ (duals : List ℕ) (facts : List Fact) (a b : ℕ) where
   pub reach_joined : {e f : ℕ} → Joined (Joined (Reach duals facts) a b) (dual_number duals a) (dual_number duals b) e f → Reach duals (facts ++ (implies a b ∷ [])) e f
   reach_joined j = whole j
     where
-      more : List Fact
-      more = facts ++ (implies a b ∷ [])
-
       kept : {e f : ℕ} → Reach duals facts e f → Reach duals (facts ++ (implies a b ∷ [])) e f
       kept r = reach_more duals facts (facts ++ (implies a b ∷ [])) (λ x. Contains-append_left facts (implies a b ∷ []) x) r
 

@@ -3,11 +3,7 @@ use Rattle.std.proofs.Math.Nat.{mul-lt-mul_of_pos_left}
 use Rattle.etp_theory.specs.Trees.{Tree, var, op, bound, Equation}
 use Rattle.etp_theory.specs.Substitutions.{apply}
 use Rattle.etp_theory.specs.Rewriting.{Step, at_root, in_left, in_right}
-use Rattle.etp_theory.specs.Weights.{Weight, coefficient, constant, weigh, IsDecreasing, AllDecrease}
-
-abbrev pub sum_to : ℕ → (ℕ → ℕ) → ℕ
-sum_to zero g = 0
-sum_to (suc n) g = sum_to n g + g n
+use Rattle.etp_theory.specs.Weights.{sum_to, Weight, coefficient, constant, weigh, IsDecreasing, AllDecrease}
 
 sum_mono : (n : ℕ) (g h : ℕ → ℕ) → ((x : ℕ) → g x ≤ h x) → sum_to n g ≤ sum_to n h
 sum_mono zero g h e = omega arith

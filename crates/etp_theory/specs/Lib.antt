@@ -17,6 +17,6 @@ pub mod Unifiers
 pub mod Overlaps
 pub mod Proofs
 pub mod Reach
-pub mod FactsRight
+pub mod RightFacts
 pub mod Theorems
 pub mod Examples

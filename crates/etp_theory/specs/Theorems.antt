@@ -1,10 +1,12 @@
 -- The theorems, as the contracts name them. Substitutions are total functions, but where `Partial`
 -- stands.
-use Rattle.std.specs.Prelude.{◌^◌, ◌≡◌, ◌≢◌, ℕ, ◌<◌, ◌≤◌, ◌↔◌, ◌⊎◌, Bool, IsTrue, List, [], slice_get, Some, None}
+use Rattle.std.specs.Prelude.{◌*◌, ◌+◌, length, ◌^◌, ◌≡◌, ◌≢◌, ℕ, ◌<◌, ◌≤◌, ◌↔◌, ◌⊎◌, Bool, IsTrue, List, [], slice_get, Some, None}
 use Rattle.std.specs.Ordering.{nat_cmp}
+use Rattle.std.specs.Cmp.{IsTotalOrder}
 use Rattle.std.specs.Cmp.Lexicographic.{slice_cmp}
-use Rattle.std.specs.declared.cmp.Ordering.TheVariants.{Less}
-use Rattle.etp_theory.specs.Trees.{Tree, var, dual, law_dual, renamed, bound, Equation}
+use Rattle.std.specs.declared.cmp.Ordering.TheVariants.{Less, Equal}
+use Rattle.etp_theory.specs.Trees.{Occurs, Tree, var, Shape, ops, leaves, shape_of, shape_ops, word_of, dual, law_dual, renamed, bound, Equation}
+use Rattle.etp_theory.specs.Orders.{shape_cmp, law_cmp}
 use Rattle.etp_theory.specs.Substitutions.{apply, then_apply, Partial, total}
 use Rattle.etp_theory.specs.Positions.{Side, sub_at, put_at}
 use Rattle.etp_theory.specs.Sameness.{Same}
@@ -13,14 +15,28 @@ use Rattle.etp_theory.specs.FiniteDerivations.{ConcludesPartial}
 use Rattle.etp_theory.specs.Magmas.{meaning, IsClosed, Holds}
 use Rattle.etp_theory.specs.Tables.{HoldsInLists, place_of, IsAssignment, assigned, below}
 use Rattle.etp_theory.specs.Rewriting.{Step, StepAt, Steps, Joinable, Convertible, IsLocallyConfluent}
-use Rattle.etp_theory.specs.Weights.{Weight, weigh, AllDecrease}
+use Rattle.etp_theory.specs.Weights.{sum_to, coefficient, constant, IsDecreasing, Weight, weigh, AllDecrease}
 use Rattle.etp_theory.specs.Strategy.{next, within, Fired, fired, normal_form, is_normal, normal_op}
-use Rattle.etp_theory.specs.Forms.{HaveOneForm}
+use Rattle.etp_theory.specs.Forms.{IsFormOf, HaveOneForm}
 use Rattle.etp_theory.specs.Unifiers.{IsMostGeneral, IsMostGeneralPartial, NoUnifier}
 use Rattle.etp_theory.specs.Overlaps.{Overlap, outer_part, inner_part, left_result, right_result, PairPasses, PairsJoin, HasSmallVariables, IsConvergent}
 use Rattle.etp_theory.specs.Proofs.{IsStepBy, Lemma, conclusion, AreRightLemmas, IsValidProof, AllDerived}
 use Rattle.etp_theory.specs.Reach.{Fact, Reach, Covers}
-use Rattle.etp_theory.specs.FactsRight.{law_numbered, AreRightFacts}
+use Rattle.etp_theory.specs.RightFacts.{law_numbered, AreRightFacts}
+
+pub record TermLaws : Type 0 where
+  pub leaves_ops : (t : Tree) → leaves t ≡ ops t + 1
+  pub shape_counts : (t : Tree) → shape_ops (shape_of t) ≡ ops t
+  pub word_length : (t : Tree) → length (word_of t) ≡ leaves t
+  -- shape and word say all of a term
+  pub shape_and_word : (s t : Tree) → shape_of s ≡ shape_of t → word_of s ≡ word_of t → s ≡ t
+
+-- the orders of shapes and of laws are total, and only equal ones compare as equal
+pub record OrderLaws : Type 0 where
+  pub shape_order : IsTotalOrder shape_cmp
+  pub shape_equal : (s t : Shape) → shape_cmp s t ≡ Equal → s ≡ t
+  pub law_order : IsTotalOrder law_cmp
+  pub law_equal : (p q : Equation) → law_cmp p q ≡ Equal → p ≡ q
 
 pub record SubstitutionLaws : Type 0 where
   pub composed : (s t : ℕ → Tree) (u : Tree) → apply t (apply s u) ≡ apply (then_apply s t) u
@@ -112,8 +128,22 @@ pub record TableLaws : Type 0 where
       → meaning times (assigned xs) e.left ≢ meaning times (assigned xs) e.right
       → Holds (below n) times e.left e.right → ⊥
 
+pub record WeightLaws : Type 0 where
+  -- a weight is so much for each variable and a constant
+  pub by_coefficients : (w : Weight) (f : ℕ → ℕ) (n : ℕ) (t : Tree) → bound t ≤ n
+      → weigh w f t ≡ sum_to n (λ x. coefficient w t x * f x) + constant w t
+  pub rule_falls : (w : Weight) (e : Equation) → IsDecreasing w e
+      → (f : ℕ → ℕ) → weigh w f e.right < weigh w f e.left
+  -- a decreasing rule has no new variables on the right
+  pub kept : (w : Weight) (e : Equation) → 0 < w.on_left → 0 < w.on_right → IsDecreasing w e
+      → (v : ℕ) → Occurs v e.right → Occurs v e.left
+
 pub record RewritingLaws : Type 0 where
   pub by_position : (rules : List Equation) (s t : Tree) → Step rules s t ↔ StepAt rules s t
+  -- the substitution may be taken as a finite partial map
+  pub partial : (rules : List Equation) (s t : Tree) (h : StepAt rules s t)
+      → (m : Partial) × (sub_at h.position s ≡ Some (apply (total m) h.rule.left))
+      × (t ≡ put_at h.position s (apply (total m) h.rule.right))
   pub falls : (w : Weight) (rules : List Equation) → AllDecrease w rules
       → (f : ℕ → ℕ) (s t : Tree) → Step rules s t → weigh w f t < weigh w f s
 
@@ -125,6 +155,9 @@ pub record StrategyLaws : Type 0 where
       → (s : Tree) → Steps rules s (normal_form w rules s)
   pub ended : (w : Weight) (rules : List Equation) → AllDecrease w rules
       → (s : Tree) → next rules (normal_form w rules s) ≡ None
+  -- a walk that ends within the limits ends at the normal form
+  pub form : (w : Weight) (rules : List Equation) → AllDecrease w rules
+      → (s u : Tree) → IsFormOf rules s u → normal_form w rules s ≡ u
   -- the step with its rule and its position
   pub fired_next : (rules : List Equation) (s : Tree) → within (λ (x : Fired). x.to) (fired rules s) ≡ next rules s
   pub fired_at : (rules : List Equation) (s : Tree) (x : Fired) → fired rules s ≡ Some x
@@ -147,6 +180,9 @@ pub record NewmanLaws : Type 0 where
 pub record UnificationLaws : Type 0 where
   pub most_general : (a b : Tree) (n : ℕ → Tree) → apply n a ≡ apply n b
       → (m : ℕ → Tree) × IsMostGeneral m a b
+  -- where some total substitution unifies, some finite partial map does
+  pub partial : (a b : Tree) (n : ℕ → Tree) → apply n a ≡ apply n b
+      → (m : Partial) × (apply (total m) a ≡ apply (total m) b)
   -- a most general one that is itself when applied twice, or none
   pub decided : (a b : Tree)
       → ((m : Partial) × IsMostGeneralPartial m a b
@@ -180,6 +216,11 @@ pub record NormalFormLaws : Type 0 where
   pub refuted : (w : Weight) (rules : List Equation) → IsConvergent w rules → (e f : Equation)
       → normal_form w rules e.left ≡ normal_form w rules e.right
       → normal_form w rules f.left ≢ normal_form w rules f.right → Derives e f → ⊥
+  -- what a checker looks at: one form of both sides, and two forms, all within the limits
+  pub refuted_within : (w : Weight) (rules : List Equation) → IsConvergent w rules
+      → (e f : Equation) → HaveOneForm rules e.left e.right
+      → (u v : Tree) → IsFormOf rules f.left u → IsFormOf rules f.right v → u ≢ v
+      → Derives e f → ⊥
 
 -- right facts: what is reached is derived, what is covered isn't, and no pair is both
 pub record ReachLaws : Type 0 where

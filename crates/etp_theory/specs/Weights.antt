@@ -1,5 +1,5 @@
 -- Linear weights of terms, and rules that lower every weight.
-use Rattle.std.specs.Prelude.{◌≡◌, ℕ, ◌+◌, ◌*◌, ◌<◌, ◌≤◌, cond, eqb, List, Some, slice_get}
+use Rattle.std.specs.Prelude.{◌≡◌, ℕ, zero, suc, ◌+◌, ◌*◌, ◌<◌, ◌≤◌, cond, eqb, List, Some, slice_get}
 use Rattle.etp_theory.specs.Trees.{Tree, var, op, Equation}
 
 -- the weight of an operation: so much times that of its left part, so much times that of its
@@ -23,6 +23,11 @@ constant w (op l r) = w.on_left * constant w l + w.on_right * constant w r + w.a
 abbrev pub weigh : Weight → (ℕ → ℕ) → Tree → ℕ
 weigh w f (var v) = f v
 weigh w f (op l r) = w.on_left * weigh w f l + w.on_right * weigh w f r + w.added
+
+-- the sum of what the numbers below `n` give
+abbrev pub sum_to : ℕ → (ℕ → ℕ) → ℕ
+sum_to zero g = 0
+sum_to (suc n) g = sum_to n g + g n
 
 -- no coefficient is smaller on the left than on the right, and the left constant is greater
 pub record IsDecreasing (w : Weight) (e : Equation) : Type 0 where

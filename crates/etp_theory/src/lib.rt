@@ -7,9 +7,19 @@ mod magma;
 mod tests;
 
 ghost use Rattle.etp_theory.specs.Examples.{Examples};
-ghost use Rattle.etp_theory.specs.Theorems.{SubstitutionLaws, PositionLaws, DualLaws, SamenessLaws, DerivationLaws, ProofLaws, MagmaLaws, TableLaws, RewritingLaws, StrategyLaws, NewmanLaws, UnificationLaws, CriticalPairLaws, NormalFormLaws, ReachLaws};
+ghost use Rattle.etp_theory.specs.Theorems.{TermLaws, OrderLaws, SubstitutionLaws, PositionLaws, DualLaws, SamenessLaws, DerivationLaws, ProofLaws, MagmaLaws, TableLaws, WeightLaws, RewritingLaws, StrategyLaws, NewmanLaws, UnificationLaws, CriticalPairLaws, NormalFormLaws, ReachLaws};
 
 pub use magma::{Magma, keeps_derived};
+
+/// Operations, leaves, shape and word of a term.
+pub fn term_laws()
+    ensures { TermLaws }
+{}
+
+/// The orders of shapes and of laws.
+pub fn order_laws()
+    ensures { OrderLaws }
+{}
 
 /// Substitutions are total functions from variables to terms; finite partial maps do the same on
 /// any two terms.
@@ -50,6 +60,11 @@ pub fn magma_laws()
 /// A law holds in a finite magma where it holds at every list of values.
 pub fn table_laws()
     ensures { TableLaws }
+{}
+
+/// Linear weights of terms, and rules that lower all of them.
+pub fn weight_laws()
+    ensures { WeightLaws }
 {}
 
 /// One rewriting, by cases and by a position, and what it does to weights.

@@ -15,8 +15,11 @@ pub trait Magma {
     /// The operation.
     ghost times: { Self → Self.Value → Self.Value → Self.Value };
 
+    /// The operation stays in the carrier.
     ghost closed: { (m : Self) → IsClosed (inside m) (times m) };
 
+    /// What is derived from a law that holds holds too; the lemma `sound` of `specs/Sound.antt`
+    /// gives it from `closed`.
     ghost sound: { (m : Self) (e f : Equation) → Holds (inside m) (times m) e.left e.right → Derives e f → Holds (inside m) (times m) f.left f.right };
 }
 
