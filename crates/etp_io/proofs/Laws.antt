@@ -106,3 +106,120 @@ to_last_newline-append (b ∷ xs) ys h =
 pub to_last_newline-plain : (xs : List ℕ) → NoNewline xs → to_last_newline xs ≡ []
 to_last_newline-plain [] h = refl
 to_last_newline-plain (b ∷ xs) h = ap (keep_newline b) (to_last_newline-plain xs h.1) ∙ grind (arith, nat_tests, h.0)
+
+-- lines
+
+map-append : (f : List ℕ → LineText) (xs ys : List (List ℕ)) → map f (xs ++ ys) ≡ map f xs ++ map f ys
+map-append f [] ys = refl
+map-append f (x ∷ xs) ys = ap (λ l. f x ∷ l) (map-append f xs ys)
+
+raw_lines-newline : (b : ℕ) (bytes : List ℕ) → b ≡ 10 → raw_lines (b ∷ bytes) ≡ [] ∷ raw_lines bytes
+raw_lines-newline b bytes e = grind (arith, nat_tests)
+
+raw_lines-byte : (b : ℕ) (bytes : List ℕ) → (b ≡ 10 → ⊥) → raw_lines (b ∷ bytes) ≡ begin_first b (raw_lines bytes)
+raw_lines-byte b bytes n = grind (arith, nat_tests)
+
+begin_first-append : (b : ℕ) (xs ys : List (List ℕ)) → (xs ≡ [] → ⊥) → begin_first b (xs ++ ys) ≡ begin_first b xs ++ ys
+begin_first-append b [] ys h = let no : ⊥ = h refl in absurd no
+begin_first-append b (x ∷ xs) ys h = refl
+
+begin_first-some : (b : ℕ) (xs : List (List ℕ)) → begin_first b xs ≡ [] → ⊥
+begin_first-some b [] h = cc
+begin_first-some b (x ∷ xs) h = cc
+
+raw_lines-some : (b : ℕ) (xs : List ℕ) → raw_lines (b ∷ xs) ≡ [] → ⊥
+raw_lines-some b xs h =
+    elim (cases_eq b 10) [
+      | inl e ↦ (let z : [] ∷ raw_lines xs ≡ [] = sym (raw_lines-newline b xs e) ∙ h in cc)
+      | inr n ↦ begin_first-some b (raw_lines xs) (sym (raw_lines-byte b xs n) ∙ h)
+    ]
+
+-- the last byte of a list that ends with its last newline is one
+ends-newline : (b : ℕ) (xs : List ℕ) → (b ≡ 10 → ⊥) → to_last_newline (b ∷ xs) ≡ b ∷ xs → raw_lines xs ≡ [] → ⊥
+ends-newline b [] n h r = grind (arith, nat_tests)
+ends-newline b (c ∷ xs) n h r = raw_lines-some c xs r
+
+raw_lines-append : (xs ys : List ℕ) → to_last_newline xs ≡ xs → raw_lines (xs ++ ys) ≡ raw_lines xs ++ raw_lines ys
+raw_lines-append [] ys h = refl
+raw_lines-append (b ∷ xs) ys h =
+    let tail : to_last_newline xs ≡ xs = keep_newline-tail b xs (to_last_newline xs) h in
+    let rest : raw_lines (xs ++ ys) ≡ raw_lines xs ++ raw_lines ys = raw_lines-append xs ys tail in
+    elim (cases_eq b 10) [
+      | inl e ↦ rw (raw_lines-newline b (xs ++ ys) e, raw_lines-newline b xs e, rest) refl
+      | inr n ↦ rw (raw_lines-byte b (xs ++ ys) n, raw_lines-byte b xs n, rest) (begin_first-append b (raw_lines xs) (raw_lines ys) (ends-newline b xs n h))
+    ]
+
+-- the lines of a part that ends with a newline, and then those of the rest
+pub lines_of-append : (xs ys : List ℕ) → to_last_newline xs ≡ xs → lines_of (xs ++ ys) ≡ lines_of xs ++ lines_of ys
+lines_of-append xs ys h = ap (map (text_of 4096)) (raw_lines-append xs ys h) ∙ map-append (text_of 4096) (raw_lines xs) (raw_lines ys)
+
+-- what a reader gave
+
+pub PartGives-none : (ended : Bool) (now : List ℕ) → (IsTrue ended → now ≡ []) → PartGives ended now now []
+PartGives-none ended now over = record { part = []; joined = refl; lines = refl; newline = λ _. refl; over = over }
+
+front-none : (xs ys : List ℕ) → xs ++ ys ≡ [] → xs ≡ []
+front-none [] ys h = refl
+front-none (x ∷ xs) ys h = cc
+
+-- some lines, and then others
+pub PartGives-then : (first second : Bool) (a b c : List ℕ) (s t : List LineText) → PartGives first a b s → PartGives second b c t
+    → (IsTrue first → IsTrue second) → PartGives second a c (s ++ t)
+PartGives-then true second a b c s t h k on =
+    let none : k.part ≡ [] = front-none k.part c (sym k.joined ∙ h.over refl) in
+    let rest : b ≡ c = rw none at k.joined in
+    let no_text : t ≡ [] = sym (rw none at k.lines) in
+    record {
+      part = h.part;
+      joined = h.joined ∙ ap (λ l. h.part ++ l) rest;
+      lines = rw (no_text, append-nil s) h.lines;
+      newline = λ e. let both : second ≡ true = on refl in cc;
+      over = k.over;
+    }
+PartGives-then false second a b c s t h k on =
+    let whole : to_last_newline h.part ≡ h.part = h.newline refl in
+    record {
+      part = h.part ++ k.part;
+      joined = h.joined ∙ ap (λ l. h.part ++ l) k.joined ∙ sym (append_assoc h.part k.part c);
+      lines = lines_of-append h.part k.part whole ∙ rw (h.lines, k.lines) refl;
+      newline = λ e. to_last_newline-append h.part k.part whole ∙ ap (λ l. h.part ++ l) (k.newline e);
+      over = k.over;
+    }
+
+-- all lines are those that were given and those to come
+pub PartGives-lines : (ended : Bool) (before now : List ℕ) (texts : List LineText) → PartGives ended before now texts → lines_of before ≡ texts ++ lines_of now
+PartGives-lines true before now texts h =
+    let none : now ≡ [] = h.over refl in
+    let all : before ≡ h.part = h.joined ∙ ap (λ l. h.part ++ l) none ∙ append-nil h.part in
+    rw (none, append-nil texts, all) h.lines
+PartGives-lines false before now texts h =
+    rw h.joined (lines_of-append h.part now (h.newline refl) ∙ ap (λ l. l ++ lines_of now) h.lines)
+
+-- The lines that stand whole in the first n bytes are those that were given,
+-- where no newline stands in the m bytes after these, up to place n.
+pub early_end : (before now : List ℕ) (texts : List LineText) (m n : ℕ) → PartGives false before now texts → NoNewline (take m now)
+    → n + length now ≡ length before + m → lines_of (to_last_newline (take n before)) ≡ texts
+early_end before now texts m n h plain e =
+    let amount : length before ≡ length h.part + length now = ap length h.joined ∙ length-append h.part now in
+    let place : n ≡ length h.part + m = omega arith in
+    let front : take n before ≡ h.part ++ take m now = rw (h.joined, place) (take-append-add h.part now m) in
+    let last : to_last_newline (take n before) ≡ h.part =
+      ap to_last_newline front ∙ to_last_newline-append h.part (take m now) (h.newline refl) ∙ ap (λ l. h.part ++ l) (to_last_newline-plain (take m now) plain) ∙ append-nil h.part in
+    ap lines_of last ∙ h.lines
+
+-- a reader that was just made fits any source and any name
+
+never : (b : Bool) → b ≡ false → IsTrue b → ⊥
+never b e t = cc
+
+pub Fits-start : (reader : Reader) (left : Option (List ℕ)) (last : ℕ) → reader.ended ≡ false → reader.held ≡ [] → Fits reader left last
+Fits-start reader left last e h =
+    let none : length reader.held ≡ 0 = ap length h in
+    record {
+      at_end = λ t. let no : ⊥ = never reader.ended e t in absurd no;
+      last_gave = λ t. let no : ⊥ = never reader.ended e t in absurd no;
+      held = omega arith;
+    }
+
+pub FitsAt-start : (reader : Reader) (keeps : Option (List ℕ → Option (List ℕ))) (name : List ℕ) → reader.ended ≡ false → reader.held ≡ [] → FitsAt reader keeps name
+FitsAt-start reader keeps name e h = record { at_end = λ t. let no : ⊥ = never reader.ended e t in absurd no; lacking = λ _. (e, h) }
