@@ -5,7 +5,7 @@ use Rattle.std.specs.declared.result.Result.{Result}
 use Rattle.etp_io.specs.declared.lines.InFault.{InFault}
 use Rattle.etp_io.specs.declared.lines.Next.{Next}
 use Rattle.etp_io.specs.declared.lines.Next.TheVariants.{Line, End}
-use Rattle.std.specs.Io.KnownBytes.{Keeps}
+use Rattle.std.specs.Io.KnownBytes.{Keeps, Consumes, IsAtEnd}
 use Rattle.etp_io.specs.Counts.{RisesBy}
 use Rattle.etp_io.specs.Texts.{LineText, text_of, NoNewline}
 use Rattle.etp_io.specs.Answers.{says, to_come}
@@ -75,3 +75,8 @@ pub record Filled (old new : Reader) (g g' f f' : ℕ) (l l' : Option (List ℕ)
   pub bytes : Keeps l (to_come new l')
   pub given : RisesBy g g' (length new.held)
   pub later : f ≤ f'
+
+-- a read at a place gave these n bytes, none only at the end
+pub record GivesAt (left left' : Option (List ℕ)) (n : ℕ) (bytes : List ℕ) : Type 0 where
+  pub consumes : Consumes left left' bytes
+  pub at_end : n ≡ 0 → IsAtEnd left'
