@@ -7,7 +7,7 @@ use Rattle.etp_laws.specs.Listing.{IsTheList}
 use Rattle.etp_session.specs.declared.command.Command.{Command}
 use Rattle.etp_session.specs.declared.command.Command.TheVariants.{Blank, Long, Order, Law, NotBuilt, Bad}
 use Rattle.etp_session.specs.declared.command.ListOrder.{ListOrder}
-use Rattle.etp_session.specs.Replies.{refused, reply_text, Answers, unopened, over, Replies}
+use Rattle.etp_session.specs.Replies.{refused, reply_text, Answers, unopened, over}
 use Rattle.etp_session.specs.Given.{GivesReply, GivesAnswer}
 
 -- a command's answer that refuses it

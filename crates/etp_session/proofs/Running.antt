@@ -1,6 +1,6 @@
 -- A session between two lines.
-use Rattle.std.proofs.Common.{◌≡◌, ℕ, ◌+◌, ◌-◌, ◌^◌, ◌≤◌, min, List, [], ◌∷◌, ◌++◌, length, length-append, take, drop, Option, None, Some, Bool, true, false, ◌||◌, IsTrue, refl, sym, ◌∙◌, ap, subst, arith, append_assoc, append-nil}
-use Rattle.std.proofs.lemmas.List.{drop-drop, length-drop}
+use Rattle.std.proofs.Common.{◌≡◌, ℕ, ◌+◌, ◌-◌, ◌≤◌, List, [], ◌∷◌, ◌++◌, length, length-append, take, drop, Option, None, Some, Bool, true, false, ◌||◌, IsTrue, refl, sym, ◌∙◌, ap, arith, append_assoc, append-nil}
+use Rattle.std.proofs.lemmas.List.{length-drop}
 use Rattle.std.specs.Option.{IfSome}
 use Rattle.std.specs.Prelude.{Ok, Err, Result}
 use Rattle.etp_io.specs.declared.lines.InFault.{InFault}
@@ -13,8 +13,7 @@ use Rattle.etp_io.specs.Reads.{NoneBefore}
 use Rattle.etp_io.specs.Answers.{Fits, GivesLines, PartGives, to_come, says}
 use Rattle.etp_io.specs.declared.lines.Next.{Next}
 use Rattle.etp_io.specs.declared.lines.Next.TheVariants.{Line, Long, End}
-use Rattle.etp_io.proofs.Laws.{Appends-then, Appends-none, IsPrefix-all, IsPrefix-append, Loses-then, Loses-none, lines_of-append}
-use Rattle.etp_session.specs.declared.command.Command.{Command}
+use Rattle.etp_io.proofs.Laws.{Appends-then, Appends-none, IsPrefix-all, Loses-then, Loses-none, lines_of-append}
 use Rattle.etp_session.specs.Commands.{asked}
 use Rattle.etp_session.specs.Replies.{State, unopened, reply_text, is_refusal}
 use Rattle.etp_session.specs.Sessions.{Item, Session, IsSession, Begins, items_from, items_of}

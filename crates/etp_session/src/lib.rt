@@ -9,3 +9,6 @@ mod top;
 pub use command::{Command, ListOrder};
 pub use serving::{Ending, session};
 pub use top::{one_text, run, run_in_memory};
+
+#[cfg(test)]
+mod tests;

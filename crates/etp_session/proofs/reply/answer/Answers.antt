@@ -1,5 +1,4 @@
 use Rattle.std.proofs.Common.{refl}
-use Rattle.std.specs.Prelude.{codes}
 use Rattle.etp_session.proofs.ReplyLemmas.{refusal-gives}
 use Rattle.etp_session.proofs.reply.answer.Goals as goal
 

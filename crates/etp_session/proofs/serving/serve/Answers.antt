@@ -1,4 +1,4 @@
-use Rattle.std.proofs.Common.{arith, ◌≡◌, ◌+◌, ap, inl, inr, rules, ◌∙◌, sym}
+use Rattle.std.proofs.Common.{arith, ◌≡◌, ◌+◌, ap, inl, inr, rules, ◌∙◌}
 use Rattle.std.specs.Prelude.{Err}
 use Rattle.etp_io.specs.declared.lines.Next.TheVariants.{End}
 use Rattle.etp_session.proofs.Running.{running-then, ends-well, ends-in_reply, ends-before_reply, takes-within, stops, stops-at_fault, goes-on}
