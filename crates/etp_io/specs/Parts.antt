@@ -48,6 +48,7 @@ pub record NextHeld (old new : Reader) (next : Next) : Type 0 where
   pub cut : old.ended ≡ false → CutsLine [] old.held new.held (says next new.line)
   pub number : new.number ≡ old.number + length (says next new.line)
   pub not_line : (next ≡ Line → ⊥) → new.line ≡ []
+  pub short : length new.line ≤ 4096
   pub not_end : old.ended ≡ false → next ≡ End → ⊥
 
 abbrev pub AnswersHeld : Reader → Reader → Option (Result Next InFault) → Type 0
@@ -61,6 +62,7 @@ pub record NextRead (old new : Reader) (next : Next) : Type 0 where
   pub cut : old.ended ≡ false → CutsLine old.line old.held new.held (says next new.line)
   pub number : new.number ≡ old.number + length (says next new.line)
   pub not_line : (next ≡ Line → ⊥) → new.line ≡ []
+  pub short : length new.line ≤ 4096
   pub end : next ≡ End → (old.ended ≡ true) × (new.held ≡ [])
 
 abbrev pub AnswersRead : Reader → Reader → Option Next → Type 0
