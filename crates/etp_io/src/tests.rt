@@ -35,7 +35,10 @@ fn lines_are_the_same_however_reads_are_cut(rt: HostRuntime) -> Result<(), Fail>
             assert_eq!(rt; lines.line(), line.as_bytes(), "in pieces of {piece}");
         }
         assert_eq!(rt; lines.next(&mut source), Ok(Next::End));
-        assert_eq!(rt; (lines.line().len(), lines.number(), lines.taken()), (0, 5, 20));
+        assert_eq!(rt;
+            (lines.line().len(), lines.number(), lines.taken()),
+            (0, 5, 20)
+        );
     }
     Ok(())
 }

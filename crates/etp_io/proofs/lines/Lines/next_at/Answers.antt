@@ -1,4 +1,4 @@
-use Rattle.std.proofs.Common.{rules, ap, ◌∙◌, ◌≡◌, sym, refl}
+use Rattle.std.proofs.Common.{rules, ap, ◌∙◌, ◌≡◌, refl}
 use Rattle.etp_io.specs.Shelves.{left_at}
 use Rattle.etp_io.specs.Reader.{Reader}
 use Rattle.etp_io.proofs.Reading.{reads-of, held-lines-at, reads-none, reads-then, none-held, starts-reading, reads-more, loses-more, before-fault, counted-read, read-gives}
@@ -14,11 +14,12 @@ returns-in-Some-clause-reads g c = reads-none _ _ _ _ _ _ _ _ (ap (λ (r : Reade
 pub read-init : goal.read-init
 read-init g c =
     let a = c.in-None.ensures.answers in
-    let same : c.answer_held.new.self.taken ≡ c.args.self.now.taken = ap (λ (r : Reader). r.taken) c.answer_held.ensures.same in
-    (reads-of _ _ _ _ _ _ _ _ _ (ap (λ n. left_at (g.H.Shelf.keeps c.args.shelf.now) c.args.name.now n) same)
-      (starts-reading _ c.answer_held.new.self _ _ _ c.answer_held.ensures.same a.0 a.1 a.2 a.3 c.answer_held.ensures.counted c.answer_held.ensures.says),
-    reads-none _ _ _ _ _ _ _ _ same,
-    refl)
+    let same : c.answer_held.new.self.taken ≡ c.args.self.now.taken = ap (λ (r : Reader). r.taken) c.answer_held.ensures.same in (
+      reads-of _ _ _ _ _ _ _ _ _ (ap (λ n. left_at (g.H.Shelf.keeps c.args.shelf.now) c.args.name.now n) same)
+          (starts-reading _ c.answer_held.new.self _ _ _ c.answer_held.ensures.same a.0 a.1 a.2 a.3 c.answer_held.ensures.counted c.answer_held.ensures.says),
+      reads-none _ _ _ _ _ _ _ _ same,
+      refl,
+    )
 
 pub returns-in_err-fill_at-clause-loses : goal.returns-in_err-fill_at-clause-loses
 returns-in_err-fill_at-clause-loses g c = loses-more _ _ c.fill_at.new.self _ _ _ _ _ _ _ _ _ _ c.read.invariant.0 c.fill_at.ensures.filled refl
@@ -54,7 +55,9 @@ pub read-preserved : goal.read-preserved
 read-preserved g c =
     let a = c.in-None-answer_read.ensures.answers in
     let m = reads-more _ _ c.fill_at.new.self c.answer_read.new.self _ _ _ _ _ _ _ _ _ c.read.invariant.0 c.fill_at.ensures.filled c.in_ok-fill_at.ensures.ok.0 c.in_ok-fill_at.ensures.ok.1
-      c.answer_read.ensures.same a.0 a.1 a.2 in
-    let same : c.answer_read.new.self.taken ≡ c.fill_at.new.self.taken = ap (λ (r : Reader). r.taken) c.answer_read.ensures.same in
-    (reads-of _ _ _ _ _ _ _ _ _ (ap (λ n. left_at (g.H.Shelf.keeps c.fill_at.new.shelf) c.args.name.now n) same) m,
-    rw same (reads-then _ _ _ _ _ _ c.read.shelf _ _ c.read.self.taken c.fill_at.new.self.taken _ c.read.invariant.1 (none-held _ _ _ _ _ _ _ _ c.read.invariant.0) (rw c.read.invariant.0.limit at c.fill_at.ensures.gives) c.fill_at.ensures.filled.taken), c.fill_at.ensures.keeps ∙ c.read.invariant.2)
+    c.answer_read.ensures.same a.0 a.1 a.2 in
+    let same : c.answer_read.new.self.taken ≡ c.fill_at.new.self.taken = ap (λ (r : Reader). r.taken) c.answer_read.ensures.same in (
+      reads-of _ _ _ _ _ _ _ _ _ (ap (λ n. left_at (g.H.Shelf.keeps c.fill_at.new.shelf) c.args.name.now n) same) m,
+      rw same (reads-then _ _ _ _ _ _ c.read.shelf _ _ c.read.self.taken c.fill_at.new.self.taken _ c.read.invariant.1 (none-held _ _ _ _ _ _ _ _ c.read.invariant.0) (rw c.read.invariant.0.limit at c.fill_at.ensures.gives) c.fill_at.ensures.filled.taken),
+      c.fill_at.ensures.keeps ∙ c.read.invariant.2,
+    )
