@@ -1,5 +1,5 @@
 -- Laws on what one call does, for what many calls do.
-use Rattle.std.proofs.Common.{◌≡◌, ℕ, suc, ◌+◌, ◌-◌, ◌^◌, ◌≤◌, ◌<◌, min, Bool, true, false, IsTrue, inl, inr, List, [], ◌∷◌, ◌++◌, length, map, take, drop, Option, None, Some, refl, sym, ◌∙◌, ap, arith, append_assoc, append-nil, length-append}
+use Rattle.std.proofs.Common.{◌≡◌, ℕ, ◌+◌, ◌-◌, ◌≤◌, Bool, true, false, IsTrue, inl, inr, List, [], ◌∷◌, ◌++◌, length, map, take, drop, Option, None, Some, refl, sym, ◌∙◌, ap, arith, append_assoc, append-nil, length-append}
 use Rattle.std.proofs.lemmas.Bool.Decides.{nat_tests}
 use Rattle.std.proofs.lemmas.Bool.{cases_eq}
 use Rattle.std.proofs.lemmas.List.{drop-drop, length-drop}
@@ -10,7 +10,7 @@ use Rattle.etp_io.specs.Counts.{RisesBy}
 use Rattle.etp_io.specs.Stream.{Loses, IsPrefix, AppendsPrefix}
 use Rattle.etp_io.specs.Texts.{LineText, begin_first, raw_lines, text_of, lines_of, NoNewline, keep_newline, to_last_newline}
 use Rattle.etp_io.specs.Reader.{Reader}
-use Rattle.etp_io.specs.Answers.{Fits, FitsAt, PartGives, GivesLines}
+use Rattle.etp_io.specs.Answers.{Fits, FitsAt, PartGives}
 
 -- counts
 
@@ -94,7 +94,7 @@ keep_newline-cons b (x ∷ xs) h ys = refl
 
 -- a list that ends with its last newline has a tail that does
 keep_newline-tail : (b : ℕ) (xs kept : List ℕ) → keep_newline b kept ≡ b ∷ xs → kept ≡ xs
-keep_newline-tail b xs [] h = elim (cases_eq b 10) [ | inl e ↦ grind (arith, nat_tests) | inr n ↦ grind (arith, nat_tests) ]
+keep_newline-tail b xs [] h = elim (cases_eq b 10) [ inl e ↦ grind (arith, nat_tests) | inr n ↦ grind (arith, nat_tests) ]
 keep_newline-tail b xs (c ∷ kept) h = cc
 
 pub to_last_newline-append : (xs ys : List ℕ) → to_last_newline xs ≡ xs → to_last_newline (xs ++ ys) ≡ xs ++ to_last_newline ys
@@ -204,7 +204,7 @@ early_end before now texts m n h plain e =
     let place : n ≡ length h.part + m = omega arith in
     let front : take n before ≡ h.part ++ take m now = rw (h.joined, place) (take-append-add h.part now m) in
     let last : to_last_newline (take n before) ≡ h.part =
-      ap to_last_newline front ∙ to_last_newline-append h.part (take m now) (h.newline refl) ∙ ap (λ l. h.part ++ l) (to_last_newline-plain (take m now) plain) ∙ append-nil h.part in
+    ap to_last_newline front ∙ to_last_newline-append h.part (take m now) (h.newline refl) ∙ ap (λ l. h.part ++ l) (to_last_newline-plain (take m now) plain) ∙ append-nil h.part in
     ap lines_of last ∙ h.lines
 
 -- a reader that was just made fits any source and any name

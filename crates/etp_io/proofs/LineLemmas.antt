@@ -1,10 +1,10 @@
 -- Lines and the parts that they are read in.
-use Rattle.std.proofs.Common.{◌≡◌, ℕ, zero, suc, ◌+◌, ◌-◌, ◌≤◌, ◌<◌, min, inl, inr, List, [], ◌∷◌, ◌++◌, length, take, drop, get_or, map, refl, sym, ◌∙◌, ap, append_assoc, append-nil, add-one, arith, length-append}
+use Rattle.std.proofs.Common.{◌≡◌, ℕ, zero, suc, ◌+◌, ◌-◌, ◌≤◌, ◌<◌, min, inl, inr, List, [], ◌∷◌, ◌++◌, length, take, drop, get_or, refl, sym, ◌∙◌, ap, add-one, arith}
 use Rattle.std.proofs.lemmas.Bool.Decides.{nat_tests}
-use Rattle.std.proofs.lemmas.Bool.{cases_lt, cases_eq}
+use Rattle.std.proofs.lemmas.Bool.{cases_lt}
 use Rattle.std.proofs.lemmas.List.{length-take, take_all, take-append-le, drop-take, drop-drop, take-append-drop, take-take}
-use Rattle.std.proofs.Math.Seq.{drop-cons, take-append-add, take-append_seam}
-use Rattle.etp_io.specs.Texts.{whole, too_long, begin_first, raw_lines, without_return, text_of, lines_of, NoNewline, keep_newline, to_last_newline}
+use Rattle.std.proofs.Math.Seq.{drop-cons, take-append-add}
+use Rattle.etp_io.specs.Texts.{whole, too_long, begin_first, raw_lines, without_return, text_of, NoNewline, keep_newline, to_last_newline}
 use Rattle.etp_io.specs.Parts.{FirstNewline, Joins, Cuts}
 
 pub NoNewline-append : (xs ys : List ℕ) → NoNewline xs → NoNewline ys → NoNewline (xs ++ ys)

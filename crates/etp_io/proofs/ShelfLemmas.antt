@@ -1,5 +1,5 @@
 -- Reads of named bytes.
-use Rattle.std.proofs.Common.{◌≡◌, ℕ, ◌+◌, ◌-◌, ◌≤◌, ◌<◌, min, Bool, true, false, List, [], ◌∷◌, length, take, drop, Option, None, Some, Result, Ok, Err, ◌++◌, refl, sym, ◌∙◌, ap, arith, if◌then◌else◌}
+use Rattle.std.proofs.Common.{◌≡◌, ℕ, ◌+◌, ◌-◌, ◌≤◌, ◌<◌, min, Bool, true, false, List, [], length, take, drop, Option, None, Some, Result, Ok, Err, ◌++◌, refl, sym, ◌∙◌, ap, arith, if◌then◌else◌}
 use Rattle.etp_io.specs.Shelves.{KeepsAt, rest_at, left_at, Lacks}
 use Rattle.etp_io.specs.Parts.{GivesAt}
 use Rattle.std.specs.Prelude.{IfSome, IfOk}

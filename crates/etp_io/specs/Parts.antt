@@ -1,5 +1,5 @@
 -- What a reader's private parts do to the line that is read.
-use Rattle.std.specs.Prelude.{◌≡◌, ℕ, ◌+◌, ◌<◌, ◌≤◌, Bool, true, false, List, [], ◌∷◌, ◌++◌, length, take, drop, None, Some, Ok, Err}
+use Rattle.std.specs.Prelude.{◌≡◌, ℕ, ◌+◌, ◌<◌, ◌≤◌, true, false, List, [], ◌∷◌, ◌++◌, length, take, drop, None, Some, Ok, Err}
 use Rattle.std.specs.declared.option.Option.{Option}
 use Rattle.std.specs.declared.result.Result.{Result}
 use Rattle.etp_io.specs.declared.lines.InFault.{InFault}
@@ -48,6 +48,7 @@ pub record NextHeld (old new : Reader) (next : Next) : Type 0 where
   pub cut : old.ended ≡ false → CutsLine [] old.held new.held (says next new.line)
   pub number : new.number ≡ old.number + length (says next new.line)
   pub not_line : (next ≡ Line → ⊥) → new.line ≡ []
+  pub short : length new.line ≤ 4096
   pub not_end : old.ended ≡ false → next ≡ End → ⊥
 
 abbrev pub AnswersHeld : Reader → Reader → Option (Result Next InFault) → Type 0
@@ -61,6 +62,7 @@ pub record NextRead (old new : Reader) (next : Next) : Type 0 where
   pub cut : old.ended ≡ false → CutsLine old.line old.held new.held (says next new.line)
   pub number : new.number ≡ old.number + length (says next new.line)
   pub not_line : (next ≡ Line → ⊥) → new.line ≡ []
+  pub short : length new.line ≤ 4096
   pub end : next ≡ End → (old.ended ≡ true) × (new.held ≡ [])
 
 abbrev pub AnswersRead : Reader → Reader → Option Next → Type 0

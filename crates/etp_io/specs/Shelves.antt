@@ -1,5 +1,5 @@
 -- What a shelf keeps, and what a read of it gives.
-use Rattle.std.specs.Prelude.{◌≡◌, ℕ, ◌≤◌, ◌-◌, List, length, take, drop, None, Some, ⊤}
+use Rattle.std.specs.Prelude.{◌≡◌, ℕ, ◌≤◌, ◌-◌, List, length, take, drop, None, Some}
 use Rattle.std.specs.declared.option.Option.{Option}
 
 -- the name is there, and these n bytes stand at the place; none is at the end or past it
