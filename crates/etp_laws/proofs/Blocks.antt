@@ -18,7 +18,8 @@ use Rattle.etp_laws.proofs.Rising.{In, All-from_in}
 use Rattle.etp_laws.proofs.Pairs.{pairs_are, AreShapes-shapes}
 use Rattle.etp_laws.proofs.WordLemmas.{words_are, shape_of-filled, word_of-filled}
 use Rattle.etp_laws.proofs.TheList.{same_tree-true, same_tree-itself, shapes_of-law_at, law_word-law_at}
-use Rattle.etp_laws.proofs.Counting.{words_count, length-words}
+use Rattle.etp_laws.specs.Places.{words_count}
+use Rattle.etp_laws.proofs.Counting.{length-words}
 use Rattle.etp_laws.proofs.Counts.{laws_upto_4}
 use Rattle.etp_laws.proofs.Unique.{laws_upto_more}
 
@@ -52,7 +53,7 @@ shape_leaves-ops (fork a b) = let x = shape_leaves-ops a in let y = shape_leaves
 pub ops-filled : (s : Shape) (w : List ℕ) → ops (filled s w) ≡ shape_ops s
 ops-filled s w = sym (shape_ops-shape_of (filled s w)) ∙ ap shape_ops (shape_of-filled s w)
 
-order_at : (s : Shape × Shape) (w : List ℕ) → shape_cmp (shape_of (law_at s w).left) (shape_of (law_at s w).right) ≡ shape_cmp s.0 s.1
+pub order_at : (s : Shape × Shape) (w : List ℕ) → shape_cmp (shape_of (law_at s w).left) (shape_of (law_at s w).right) ≡ shape_cmp s.0 s.1
 order_at s w = λ i. shape_cmp (shapes_of-law_at s w i).0 (shapes_of-law_at s w i).1
 
 -- the listed laws of unequal shapes are all, or none

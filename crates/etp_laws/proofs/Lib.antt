@@ -19,3 +19,8 @@ pub mod Blocks
 pub mod FormWords
 pub mod Variables
 pub mod Entries
+pub mod Splits
+pub mod ShapePlaces
+pub mod WordPlaces
+pub mod BlockPlaces
+pub mod LawPlaces

@@ -21,3 +21,9 @@ entry_at laws n = cond (n == 0) None (slice_get laws (n - 1))
 -- the law has m variables, which are 0 to m - 1
 abbrev pub HasVariables : Equation → ℕ → Type 0
 HasVariables law m = (v : ℕ) → Contains (law_word law) v ↔ v < m
+
+-- n is the number of p: entry n is the same
+pub record IsNumberOf (laws : List Equation) (p : Equation) (n : ℕ) : Type 0 where
+  pub entry : Equation
+  pub stands : entry_at laws n ≡ Some entry
+  pub same : Same p entry

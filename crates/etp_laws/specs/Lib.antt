@@ -5,3 +5,4 @@ pub mod Enumeration
 pub mod Forms
 pub mod Coding
 pub mod LawLists
+pub mod Places
