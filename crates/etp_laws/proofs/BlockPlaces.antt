@@ -8,7 +8,7 @@ use Rattle.std.specs.declared.cmp.Ordering.TheVariants.{Less, Equal, Greater}
 use Rattle.etp_theory.specs.Trees.{Shape, leaf, fork, shape_ops, shape_leaves}
 use Rattle.etp_theory.specs.Orders.{shape_cmp}
 use Rattle.etp_laws.specs.Enumeration.{pairs_from, shapes, laws_at, laws_of}
-use Rattle.etp_laws.specs.Places.{words_count, block_start_by, block_start, laws_below}
+use Rattle.etp_laws.specs.Places.{words_count, shape_rank, block_start_by, block_start, laws_below}
 use Rattle.etp_laws.proofs.Shapes.{shape_total}
 use Rattle.etp_laws.proofs.Rising.{In}
 use Rattle.etp_laws.proofs.Pairs.{shape_cmp-ops, pairs_are, AreShapes-shapes}
@@ -20,7 +20,7 @@ use Rattle.etp_laws.proofs.Splits.{Split, In-before}
 pub record BlockBefore (a b : Shape) : Type 0 where
   pub before : List (Shape × Shape)
   pub split : Split (pairs_from shapes (shape_ops a + shape_ops b)) before (a, b)
-  pub long : length (flat_map laws_at before) ≡ block_start a b
+  pub long : length (flat_map laws_at before) ≡ block_start (shape_ops a) (shape_ops b) (shape_rank a) (shape_rank b)
 
 all_less : (m : ℕ) (ss : List (Shape × Shape)) → ((q : Shape × Shape) → In q ss → (shape_cmp q.0 q.1 ≡ Less) × (shape_leaves q.0 + shape_leaves q.1 ≡ m)) → length (flat_map laws_at ss) ≡ length ss * words_count m 0
 all_less m [] h = omega arith
@@ -51,7 +51,7 @@ unequal a b h =
     record {
       before = p.before;
       split = p.split;
-      long = all_less (n + 2) p.before (before_less a b p.before p.split p.left h) ∙ ap (λ m. m * words_count (n + 2) 0) p.long ∙ ap (λ o. block_start_by o a b) (sym (nat_less (shape_ops a) (shape_ops b) h));
+      long = all_less (n + 2) p.before (before_less a b p.before p.split p.left h) ∙ ap (λ m. m * words_count (n + 2) 0) p.long ∙ ap (λ o. block_start_by o (shape_ops a) (shape_ops b) (shape_rank a) (shape_rank b)) (sym (nat_less (shape_ops a) (shape_ops b) h));
     }
 
 -- the shapes of one operation, and of two

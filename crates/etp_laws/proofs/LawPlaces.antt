@@ -4,7 +4,7 @@ use Rattle.std.proofs.lemmas.Cmp.{tied_itself, nat_list_cmp_total}
 use Rattle.std.proofs.lemmas.Bool.Decides.{nat_tests}
 use Rattle.std.specs.List.{range_with_len, slice_get}
 use Rattle.std.specs.Cmp.Lexicographic.{slice_cmp}
-use Rattle.std.specs.Ordering.{nat_cmp, is_gt, ordering_reverse}
+use Rattle.std.specs.Ordering.{nat_cmp, ordering_then, is_gt, ordering_reverse}
 use Rattle.std.specs.declared.cmp.Ordering.{Ordering}
 use Rattle.std.specs.declared.cmp.Ordering.TheVariants.{Less, Equal, Greater}
 use Rattle.etp_theory.specs.Trees.{Tree, var, op, Shape, leaf, Equation, shape_of, shape_ops, shape_leaves, law_word, law_ops, exchanged}
@@ -14,7 +14,7 @@ use Rattle.etp_laws.specs.Listing.{Listed, trivial}
 use Rattle.etp_laws.specs.LawLists.{entry_at, IsNumberOf}
 use Rattle.etp_laws.specs.Numbering.{numbered}
 use Rattle.etp_laws.specs.Enumeration.{pairs_from, shapes, is_listed, law_at, laws_at, laws_of, laws_upto}
-use Rattle.etp_laws.specs.Places.{block_start, place_in_block, laws_below, place_at, lesser, place_by, number_of}
+use Rattle.etp_laws.specs.Places.{shape_rank, block_start, place_in_block, laws_below, place_at, lesser, place_by, number_of}
 use Rattle.etp_laws.proofs.Shapes.{shape_total, shape_cmp-equal, shape_ops-shape_of}
 use Rattle.etp_laws.proofs.Numbers.{moved, moved-injective, numbered-map}
 use Rattle.etp_laws.proofs.Canonical.{cases_Ordering, canonical_from_listed, listed_from_canonical}
@@ -24,7 +24,9 @@ use Rattle.etp_laws.proofs.Readings.{Reading, reading_of, left_shape, right_shap
 use Rattle.etp_laws.proofs.Trivial.{Listed-trivial, lone_same}
 use Rattle.etp_laws.proofs.Variables.{growing}
 use Rattle.etp_laws.proofs.Entries.{entry_after}
+use Rattle.etp_laws.proofs.Blocks.{shape_leaves-ops}
 use Rattle.etp_laws.proofs.Splits.{Split, Split-flat_map, Split-range, Split-get}
+use Rattle.etp_laws.proofs.ShapePlaces.{shape_order}
 use Rattle.etp_laws.proofs.BlockPlaces.{BlockBefore, block_before, laws_below_are}
 use Rattle.etp_laws.proofs.WordPlaces.{LawBefore, law_before}
 
@@ -58,10 +60,13 @@ law_place k e listed h small = subst (λ i. slice_get (laws_upto k) i ≡ Some e
         (Split-range 0 n (k + 1) n (omega arith) (omega arith))
         (Split-flat_map laws_at (pairs_from shapes n) block.before s place.before e block.split (subst (λ q. Split (laws_at s) place.before q) itself place.split))
 
+    inside : place_in_block (shape_cmp (shape_of e.left) (shape_of e.right)) (shape_leaves (shape_of e.left)) (law_word e) ≡ place_in_block (ordering_then (nat_cmp (shape_ops (shape_of e.left)) (shape_ops (shape_of e.right))) (nat_cmp (shape_rank (shape_of e.left)) (shape_rank (shape_of e.right)))) (shape_ops (shape_of e.left) + 1) (law_word e)
+    inside = λ i. place_in_block (sym (shape_order (shape_of e.left) (shape_of e.right)) i) (shape_leaves-ops (shape_of e.left) i) (law_word e)
+
     long : length (flat_map laws_of (range_with_len 0 n) ++ (flat_map laws_at block.before ++ place.before)) ≡ place_at (shape_of e.left) (shape_of e.right) (law_word e)
     long =
         length-append (flat_map laws_of (range_with_len 0 n)) (flat_map laws_at block.before ++ place.before)
-        ∙ (λ i. laws_below_are n (let c = count in omega arith) i + (length-append (flat_map laws_at block.before) place.before ∙ (λ j. block.long j + place.long j)) i)
+        ∙ (λ i. laws_below_are n (let c = count in omega arith) i + (length-append (flat_map laws_at block.before) place.before ∙ (λ j. block.long j + (place.long ∙ inside) j)) i)
 
 -- the entry that is the same as a law, and where it stands
 record Found (p : Equation) : Type 0 where

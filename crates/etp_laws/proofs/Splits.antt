@@ -7,7 +7,10 @@ use Rattle.std.proofs.lemmas.Grind.{flat_map-append}
 use Rattle.std.proofs.lemmas.Option.{slice_get-get_or}
 use Rattle.std.proofs.Math.Seq.{take-append_seam, get_or-append_seam}
 use Rattle.std.specs.List.{range_with_len, slice_get}
-use Rattle.etp_laws.proofs.Rising.{In, In-append_left}
+use Rattle.std.specs.List.Sorted.{IsStrictlySortedBy}
+use Rattle.std.specs.declared.cmp.Ordering.{Ordering}
+use Rattle.std.specs.declared.cmp.Ordering.TheVariants.{Less}
+use Rattle.etp_laws.proofs.Rising.{In, In-append_left, In-append_right, each}
 
 -- x stands in the list after those of `before`
 pub record Split {X : Type 0} (xs before : List X) (x : X) : Type 0 where
@@ -50,4 +53,31 @@ pub Split-take : {X : Type 0} (xs b : List X) (x : X) → Split xs b x → b ≡
 Split-take xs b x s = sym (take-append_seam b (x ∷ s.after)) ∙ ap (take (length b)) (sym s.is)
 
 pub In-before : {X : Type 0} (xs b : List X) (x y : X) → Split xs b x → In y b → In y xs
-In-before xs b x y s h = let k = In-append_left y b (x ∷ s.after) h in subst (In y) (sym s.is) k
+In-before xs b x y s h =
+    let k = In-append_left y b (x ∷ s.after) h in
+    subst (In y) (sym s.is) k
+
+-- of two elements of a list, the one with fewer before it stands before the other
+earlier : {X : Type 0} (b c d e : List X) (x y : X) → b ++ x ∷ d ≡ c ++ y ∷ e → length b < length c → In x c
+earlier [] [] d e x y h l = absurd (omega arith)
+earlier [] (z ∷ c) d e x y h l = let same : x ≡ z = cc in inl same
+earlier (z ∷ b) [] d e x y h l = absurd (omega arith)
+earlier (z ∷ b) (w ∷ c) d e x y h l = let rest : b ++ x ∷ d ≡ c ++ y ∷ e = cc in inr (earlier b c d e x y rest (omega arith))
+
+pub Split-earlier : {X : Type 0} (xs b c : List X) (x y : X) → Split xs b x → Split xs c y → length b < length c → In x c
+Split-earlier xs b c x y s t l = earlier b c s.after t.after x y (sym s.is ∙ t.is) l
+
+pub Split-same : {X : Type 0} (xs b c : List X) (x y : X) → Split xs b x → Split xs c y → length b ≡ length c → x ≡ y
+Split-same xs b c x y s t e =
+    let both : Some x ≡ Some y = sym (Split-get xs b x s) ∙ ap (slice_get xs) e ∙ Split-get xs c y t in
+    cc
+
+rising_before : {X : Type 0} (R : X → X → Ordering) (b d : List X) (x y : X) → IsStrictlySortedBy R (b ++ x ∷ d) → In y b → R y x ≡ Less
+unfolding IsStrictlySortedBy
+rising_before R [] d x y r h = absurd h
+rising_before R (z ∷ b) d x y r (inl e) = subst (λ u. R u x ≡ Less) (sym e) (each (λ u. R z u ≡ Less) (b ++ x ∷ d) r.0 x (In-append_right x b (x ∷ d) (inl refl)))
+rising_before R (z ∷ b) d x y r (inr h) = rising_before R b d x y r.1 h
+
+-- in a rising list, what stands before an element is less
+pub Split-less : {X : Type 0} (R : X → X → Ordering) (xs b : List X) (x y : X) → Split xs b x → IsStrictlySortedBy R xs → In y b → R y x ≡ Less
+Split-less R xs b x y s r h = rising_before R b s.after x y (subst (IsStrictlySortedBy R) s.is r) h
