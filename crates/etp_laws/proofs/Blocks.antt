@@ -20,7 +20,7 @@ use Rattle.etp_laws.proofs.WordLemmas.{words_are, shape_of-filled, word_of-fille
 use Rattle.etp_laws.proofs.TheList.{same_tree-true, same_tree-itself, shapes_of-law_at, law_word-law_at}
 use Rattle.etp_laws.specs.Places.{words_count}
 use Rattle.etp_laws.proofs.Counting.{length-words}
-use Rattle.etp_laws.proofs.Counts.{laws_upto_4}
+use Rattle.etp_laws.proofs.Lengths.{laws_upto_4}
 use Rattle.etp_laws.proofs.Unique.{laws_upto_more}
 
 -- a test of what a function gives is a test of the function's arguments

@@ -13,7 +13,7 @@ use Rattle.etp_laws.specs.LawLists.{LawList, entry_at}
 use Rattle.etp_laws.specs.Coding.{coded_equation}
 use Rattle.etp_laws.specs.Enumeration.{laws_upto}
 use Rattle.etp_laws.proofs.TheList.{laws_upto_is}
-use Rattle.etp_laws.proofs.Counts.{laws_upto_4}
+use Rattle.etp_laws.proofs.Lengths.{laws_upto_4}
 use Rattle.etp_laws.proofs.Blocks.{laws_upto_5}
 
 -- what stands behind the truncation of the type's invariant

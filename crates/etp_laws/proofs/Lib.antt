@@ -6,7 +6,7 @@ pub mod WordLemmas
 pub mod Pairs
 pub mod TheList
 pub mod EnumerationLemmas
-pub mod Counts
+pub mod Lengths
 pub mod Unique
 pub mod Readings
 pub mod Counting
@@ -24,3 +24,4 @@ pub mod ShapePlaces
 pub mod WordPlaces
 pub mod BlockPlaces
 pub mod LawPlaces
+pub mod CountLemmas

@@ -6,3 +6,4 @@ pub mod Forms
 pub mod Coding
 pub mod LawLists
 pub mod Places
+pub mod Words

@@ -1,0 +1,65 @@
+-- The program's counts, and the rank of a word.
+use Rattle.std.proofs.Common.{◌≡◌, ℕ, ◌+◌, ◌-◌, ◌*◌, ◌/◌, ◌%◌, ◌<◌, ◌≤◌, ◌⊎◌, inl, inr, ◌++◌, List, [], ◌∷◌, length, drop, get_or, take, min, slice_index, refl, sym, ◌∙◌, ap, subst, suc, zero, arith, add-one, drop-cons, Bool, true, false, ◌&&◌, ◌==◌, not, All, Contains}
+use Rattle.std.proofs.lemmas.Bool.{cases_lt, and_parts, eqb-true}
+use Rattle.etp_laws.specs.declared.counts.TheConstants.{WORDS, SHAPES, LAWS_BELOW}
+use Rattle.etp_laws.specs.Numbering.{Grows}
+use Rattle.etp_laws.specs.Enumeration.{used_after, words, shapes}
+use Rattle.etp_laws.specs.Places.{words_count, rank, unrank, pairs_below, laws_below}
+use Rattle.etp_laws.specs.Words.{AreTheWords, CountsWords}
+use Rattle.etp_laws.proofs.Rising.{Contains-from_in, All-from_in}
+use Rattle.etp_laws.proofs.WordLemmas.{In-words, words_are, Rising-words, used_after-old, used_after-new}
+use Rattle.etp_laws.proofs.Counting.{length-words, words-rank}
+
+all_below : (ℕ → Bool) → ℕ → Bool
+all_below p zero = true
+all_below p (suc n) = p n && all_below p n
+
+all_below-at : (p : ℕ → Bool) (n k : ℕ) → all_below p n ≡ true → k < n → p k ≡ true
+unfolding all_below
+all_below-at p zero k h l = absurd (omega arith)
+all_below-at p (suc n) k h l = one (cases_lt k n) (and_parts (p n) (all_below p n) h) (λ m b. all_below-at p n k b m)
+  where
+    one : ((k < n) ⊎ (n ≤ k)) → (p n ≡ true) × (all_below p n ≡ true) → (k < n → all_below p n ≡ true → p k ≡ true) → p k ≡ true
+    one (inl m) b more = more m b.1
+    one (inr m) b more = let e : n ≡ k = omega arith in ap p (sym e) ∙ b.0
+
+abbrev words_agree : ℕ → ℕ → Bool
+words_agree r k = (slice_index WORDS (r * 9 + k) == words_count r k) && not (words_count r k == 0)
+
+words_table : all_below (λ r. all_below (words_agree r) 9) 9 ≡ true
+unfolding all_below
+words_table = refl
+
+words_at : (r k : ℕ) → r ≤ 8 → k ≤ 8 → words_agree r k ≡ true
+words_at r k h l = all_below-at (words_agree r) 9 k (all_below-at (λ r. all_below (words_agree r) 9) 9 r words_table (omega arith)) (omega arith)
+
+pub WORDS-at : (r k i : ℕ) → r ≤ 8 → k ≤ 8 → i ≡ r * 9 + k → slice_index WORDS i ≡ words_count r k
+WORDS-at r k i h l e = ap (slice_index WORDS) e ∙ eqb-true (slice_index WORDS (r * 9 + k)) (words_count r k) (and_parts (slice_index WORDS (r * 9 + k) == words_count r k) (not (words_count r k == 0)) (words_at r k h l)).0
+
+pub words_count-some : (r k : ℕ) → 0 < words_count r k
+words_count-some zero k = omega arith
+words_count-some (suc r) k = let m = words_count-some r (k + 1) in omega arith
+
+shapes_table : all_below (λ n. slice_index SHAPES n == length (shapes n)) 6 ≡ true
+unfolding all_below
+shapes_table = refl
+
+pub SHAPES-at : (n : ℕ) → n ≤ 5 → slice_index SHAPES n ≡ length (shapes n)
+SHAPES-at n h = eqb-true (slice_index SHAPES n) (length (shapes n)) (all_below-at (λ n. slice_index SHAPES n == length (shapes n)) 6 n shapes_table (omega arith))
+
+pub products : (a b : ℕ) → a ≤ 42 → b ≤ 42 → a * b ≤ 1764
+products a b h l = grind arith
+
+pub pairs_below-more : (n i : ℕ) → pairs_below n (i + 1) ≡ pairs_below n i + length (shapes i) * length (shapes (n - i))
+pairs_below-more n i = let next : i + 1 ≡ suc i = omega arith in ap (pairs_below n) next
+
+pub counts_words : (leaves used : ℕ) → CountsWords leaves used (words_count leaves used)
+counts_words leaves used = record {
+  all = words leaves used;
+  are = record {
+    rising = Rising-words leaves used;
+    sound = All-from_in (λ w. Grows used w × (length w ≡ leaves)) (words leaves used) (λ w h. words_are leaves used w h);
+    complete = λ w g e. Contains-from_in w (words leaves used) (In-words leaves used w g e);
+  };
+  count = sym (length-words leaves used);
+}
