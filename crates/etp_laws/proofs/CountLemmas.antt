@@ -1,10 +1,12 @@
 -- The program's counts, and the rank of a word.
-use Rattle.std.proofs.Common.{◌≡◌, ℕ, ◌+◌, ◌-◌, ◌*◌, ◌/◌, ◌%◌, ◌<◌, ◌≤◌, ◌⊎◌, inl, inr, ◌++◌, List, [], ◌∷◌, length, drop, get_or, take, min, slice_index, refl, sym, ◌∙◌, ap, subst, suc, zero, arith, add-one, drop-cons, Bool, true, false, ◌&&◌, ◌==◌, not, All, Contains}
-use Rattle.std.proofs.lemmas.Bool.{cases_lt, and_parts, eqb-true}
+use Rattle.std.proofs.Common.{◌≡◌, ℕ, ◌+◌, ◌-◌, ◌*◌, ◌/◌, ◌%◌, ◌<◌, ◌≤◌, ◌⊎◌, inl, inr, ◌++◌, List, [], ◌∷◌, length, drop, get_or, take, min, slice_index, refl, sym, ◌∙◌, ap, subst, suc, zero, arith, add-one, drop-cons, Bool, true, false, ◌&&◌, ◌==◌, not, ltb, All, Contains}
+use Rattle.std.proofs.lemmas.Bool.{cases_lt, and_parts, eqb-true, ltb-true}
+use Rattle.etp_theory.specs.Trees.{Shape, fork, shape_ops}
 use Rattle.etp_laws.specs.declared.counts.TheConstants.{WORDS, SHAPES, LAWS_BELOW}
 use Rattle.etp_laws.specs.Numbering.{Grows}
 use Rattle.etp_laws.specs.Enumeration.{used_after, words, shapes}
-use Rattle.etp_laws.specs.Places.{words_count, rank, unrank, pairs_below, laws_below}
+use Rattle.etp_laws.specs.Places.{words_count, shape_rank, pairs_below}
+use Rattle.etp_laws.proofs.ShapePlaces.{shape_rank-below}
 use Rattle.etp_laws.specs.Words.{AreTheWords, CountsWords}
 use Rattle.etp_laws.proofs.Rising.{Contains-from_in, All-from_in}
 use Rattle.etp_laws.proofs.WordLemmas.{In-words, words_are, Rising-words, used_after-old, used_after-new}
@@ -47,6 +49,14 @@ shapes_table = refl
 pub SHAPES-at : (n : ℕ) → n ≤ 5 → slice_index SHAPES n ≡ length (shapes n)
 SHAPES-at n h = eqb-true (slice_index SHAPES n) (length (shapes n)) (all_below-at (λ n. slice_index SHAPES n == length (shapes n)) 6 n shapes_table (omega arith))
 
+small_shapes_table : all_below (λ n. ltb (length (shapes n)) 43) 6 ≡ true
+unfolding all_below
+small_shapes_table = refl
+
+small_words_table : all_below (λ n. ltb (words_count n 0) 878) 8 ≡ true
+unfolding all_below
+small_words_table = refl
+
 pub products : (a b : ℕ) → a ≤ 42 → b ≤ 42 → a * b ≤ 1764
 products a b h l = grind arith
 
@@ -63,3 +73,35 @@ counts_words leaves used = record {
   };
   count = sym (length-words leaves used);
 }
+
+pub small_shapes : (n : ℕ) → n ≤ 5 → length (shapes n) ≤ 42
+small_shapes n h =
+    let l = ltb-true (length (shapes n)) 43 (all_below-at (λ n. ltb (length (shapes n)) 43) 6 n small_shapes_table (omega arith)) in
+    omega arith
+
+pub small_words : (n : ℕ) → n ≤ 7 → words_count n 0 ≤ 877
+small_words n h =
+    let l = ltb-true (words_count n 0) 878 (all_below-at (λ n. ltb (words_count n 0) 878) 8 n small_words_table (omega arith)) in
+    omega arith
+
+pub rank_small : (s : Shape) → shape_ops s ≤ 5 → shape_rank s ≤ 42
+rank_small s h = let a = shape_rank-below s in let b = small_shapes (shape_ops s) h in omega arith
+
+-- the shape of two parts
+pub joined_small : (a b : Shape) (i j x y p : ℕ) → i ≡ shape_ops a → j ≡ shape_ops b → x ≡ shape_rank a → y ≡ shape_rank b → i + j ≤ 4 → p ≡ pairs_below (i + j) i + (x * length (shapes j) + y) → p ≤ 42
+joined_small a b i j x y p ei ej ex ey h e =
+    let is : p ≡ shape_rank (fork a b) = e ∙ (λ d. pairs_below (ei d + ej d) (ei d) + (ex d * length (shapes (ej d)) + ey d)) in
+    let small = rank_small (fork a b) (omega arith) in
+    omega arith
+
+pub products_long : (a b : ℕ) → a ≤ 10626 → b ≤ 877 → a * b ≤ 9319002
+products_long a b h l = grind arith
+
+pub words_small : (n w : ℕ) → w ≡ words_count n 0 → n ≤ 7 → w ≤ 877
+words_small n w e h = let l = small_words n h in omega arith
+
+pub block_small_less : (before words l s r : ℕ) → before ≤ 8820 → words ≤ 877 → l ≤ 42 → s ≤ 42 → r ≤ 42 → (before + (l * s + r)) * words ≤ 9319002
+block_small_less before words l s r a b c d e = let p = products l s c d in products_long (before + (l * s + r)) words (omega arith) b
+
+pub block_small_equal : (before words l r : ℕ) → before ≤ 8820 → words ≤ 877 → l ≤ 42 → r ≤ 42 → (before + l) * words + r * 112 ≤ 9323706
+block_small_equal before words l r a b c e = let p = products_long (before + l) words (omega arith) b in omega arith

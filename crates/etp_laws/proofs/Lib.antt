@@ -25,3 +25,5 @@ pub mod WordPlaces
 pub mod BlockPlaces
 pub mod LawPlaces
 pub mod CountLemmas
+pub mod WordRanks
+pub mod PartLemmas

@@ -1,6 +1,6 @@
 ghost use Rattle.std.specs.Prelude.{◌≡◌, ◌≤◌, ◌+◌, ◌*◌, ◌++◌, length};
 ghost use Rattle.std.specs.Ordering.{nat_cmp, ordering_then};
-ghost use Rattle.etp_theory.specs.Trees.{ops, leaves, shape_ops, word_of};
+ghost use Rattle.etp_theory.specs.Trees.{ops, shape_ops, word_of};
 ghost use Rattle.etp_theory.specs.Trees as Theory;
 ghost use Rattle.etp_term.specs.Terms.{tree_of};
 ghost use Rattle.etp_laws.specs.Places.{shape_rank, seen};
@@ -31,7 +31,7 @@ impl ShapePlace {
 
     /// The shape whose parts have these shapes.
     fn joined(&self, right: &ShapePlace) -> ShapePlace
-        requires ops { self.now.ops + right.now.ops ≤ 5 }
+        requires ops { self.now.ops + right.now.ops ≤ 4 }
         requires left { self.now.place ≤ 42 }
         requires right { right.now.place ≤ 42 }
         ensures ops { result.ops ≡ self.now.ops + right.now.ops + 1 }
@@ -50,6 +50,7 @@ pub fn shape_of(term: &Term, mirrored: bool) -> ShapePlace
     requires { ops (tree_of term.now) ≤ 5 }
     ensures ops { result.ops ≡ shape_ops (Theory.shape_of (seen mirrored (tree_of term.now))) }
     ensures place { result.place ≡ shape_rank (Theory.shape_of (seen mirrored (tree_of term.now))) }
+    ensures size { result.ops ≡ ops (tree_of term.now) }
     ensures small { result.place ≤ 42 }
 {
     match term {
@@ -68,9 +69,9 @@ pub fn shape_of(term: &Term, mirrored: bool) -> ShapePlace
 
 /// Appends the variables of a term, or of its dual where it is to be mirrored.
 fn append_word(term: &Term, mirrored: bool, word: &mut Letters)
-    requires { length word.old + leaves (tree_of term.now) ≤ 8 }
+    requires { length word.old + ops (tree_of term.now) ≤ 7 }
     ensures word { word.new ≡ word.old ++ word_of (seen mirrored (tree_of term.now)) }
-    ensures len { length word.new ≡ length word.old + leaves (tree_of term.now) }
+    ensures len { length word.new ≡ length word.old + ops (tree_of term.now) + 1 }
 {
     match term {
         Term::Var(v) => word.push(*v),
@@ -88,9 +89,9 @@ fn append_word(term: &Term, mirrored: bool, word: &mut Letters)
 
 /// The variables of a term, or of its dual where it is to be mirrored.
 pub fn letters_of(term: &Term, mirrored: bool) -> Letters
-    requires { leaves (tree_of term.now) ≤ 8 }
+    requires { ops (tree_of term.now) ≤ 7 }
     ensures word { result ≡ word_of (seen mirrored (tree_of term.now)) }
-    ensures len { length result ≡ leaves (tree_of term.now) }
+    ensures len { length result ≡ ops (tree_of term.now) + 1 }
 {
     let mut word = Letters::new();
     append_word(term, mirrored, &mut word);
