@@ -11,7 +11,7 @@ use Rattle.etp_theory.specs.Trees.{Tree, var, op, Shape, leaf, Equation, shape_o
 use Rattle.etp_theory.specs.Orders.{shape_cmp}
 use Rattle.etp_theory.specs.Sameness.{Same}
 use Rattle.etp_laws.specs.Listing.{Listed, trivial}
-use Rattle.etp_laws.specs.LawLists.{entry_at, IsNumberOf}
+use Rattle.etp_laws.specs.LawLists.{entry_at, IsNumberOf, HasNumber}
 use Rattle.etp_laws.specs.Numbering.{numbered}
 use Rattle.etp_laws.specs.Enumeration.{pairs_from, shapes, is_listed, law_at, laws_at, laws_of, laws_upto}
 use Rattle.etp_laws.specs.Places.{shape_rank, block_start, place_in_block, laws_below, place_at, lesser, place_by, number_of}
@@ -149,10 +149,6 @@ lone p x l r = record {
 
     two : numbered (x ∷ x ∷ []) ≡ 0 ∷ 0 ∷ []
     two = sym (numbered-map (moved x 0) (moved-injective x 0) (x ∷ x ∷ [])) ∙ ap (λ y. numbered (y ∷ y ∷ [])) here
-
--- a law has a number where its sides differ or are one variable
-abbrev pub HasNumber : Equation → Type 0
-HasNumber p = (p.left ≢ p.right) ⊎ ((x : ℕ) × (p.left ≡ var x) × (p.right ≡ var x))
 
 found : (p : Equation) → HasNumber p → Found p
 found p (inl n) = differing p n

@@ -27,3 +27,5 @@ pub mod LawPlaces
 pub mod CountLemmas
 pub mod WordRanks
 pub mod PartLemmas
+pub mod DualNumbers
+pub mod LawItems

@@ -28,11 +28,7 @@ IsTheList-unique k xs ys a b =
 pub IsTheList-is : (k : ℕ) (xs : List Equation) → IsTheList k xs → xs ≡ laws_upto k
 IsTheList-is k xs h = IsTheList-unique k xs (laws_upto k) h (laws_upto_is k)
 
--- L(4) has 4694 entries
-pub length-IsTheList : (xs : List Equation) → IsTheList 4 xs → length xs ≡ 4694
-length-IsTheList xs h = ap length (IsTheList-is 4 xs h) ∙ laws_upto_4
-
--- L(k) is a prefix of L(k + 1)
+-- the list of one operation more goes on after the list
 pub laws_upto_more : (k : ℕ) → laws_upto (k + 1) ≡ laws_upto k ++ laws_of (k + 1)
 unfolding laws_upto
 laws_upto_more k = flat_map_range_more laws_of (k + 1)

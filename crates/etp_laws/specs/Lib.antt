@@ -7,3 +7,4 @@ pub mod Coding
 pub mod LawLists
 pub mod Places
 pub mod Words
+pub mod Numbers

@@ -1,11 +1,11 @@
 -- Where a law stands in the list, by counting: what the program does in place of a look through the list.
 -- No public clause cites it but for `words_count`.
-use Rattle.std.specs.Prelude.{ℕ, zero, suc, ◌+◌, ◌-◌, ◌*◌, ◌/◌, min, Bool, cond, List, [], ◌∷◌, length, filter, take, slice_index}
+use Rattle.std.specs.Prelude.{ℕ, zero, suc, ◌+◌, ◌-◌, ◌*◌, ◌/◌, min, Bool, cond, List, [], ◌∷◌, length, map, filter, take, slice_index}
 use Rattle.std.specs.Cmp.Lexicographic.{slice_cmp}
 use Rattle.std.specs.Ordering.{nat_cmp, ordering_then, is_gt}
 use Rattle.std.specs.declared.cmp.Ordering.{Ordering}
 use Rattle.std.specs.declared.cmp.Ordering.TheVariants.{Less, Equal, Greater}
-use Rattle.etp_theory.specs.Trees.{Tree, dual, Shape, leaf, fork, Equation, shape_of, shape_ops, shape_leaves, law_word, law_ops, exchanged}
+use Rattle.etp_theory.specs.Trees.{Tree, dual, Shape, leaf, fork, Equation, shape_of, shape_ops, shape_leaves, law_word, law_ops, law_dual, exchanged}
 use Rattle.etp_theory.specs.Orders.{shape_cmp}
 use Rattle.etp_laws.specs.Numbering.{numbered}
 use Rattle.etp_laws.specs.Enumeration.{used_after, words, shapes, is_kept}
@@ -84,3 +84,7 @@ seen mirrored t = cond mirrored (dual t) t
 -- the law of two terms, or its dual
 abbrev pub seen_law : Bool → Tree → Tree → Equation
 seen_law mirrored l r = record { left = seen mirrored l; right = seen mirrored r }
+
+-- the numbers of the duals, by counting
+unfoldable pub dual_numbers : List Equation → List ℕ
+dual_numbers laws = map (λ e. number_of (law_dual e)) laws

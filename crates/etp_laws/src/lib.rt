@@ -8,7 +8,9 @@ mod letters;
 mod listing;
 mod parts;
 mod places;
+mod theorems;
 mod word_lists;
 
 pub use counts::words;
-pub use laws::Laws;
+pub use laws::{Laws, Numbered};
+pub use theorems::{lists_are_this_long, longer_list_begins_with_the_list, the_list_is_one};

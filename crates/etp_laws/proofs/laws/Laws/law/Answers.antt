@@ -8,7 +8,7 @@ use Rattle.etp_laws.proofs.Entries.{the_list, entry_after}
 use Rattle.etp_laws.proofs.laws.Laws.law.Goals as goal
 
 pub returns-then-n-eq0-clause-list : goal.returns-then-n-eq0-clause-list
-returns-then-n-eq0-clause-list c = the_list c.args.self.now c.self.inside.order _ c.self.view_is c.self.invariant.2
+returns-then-n-eq0-clause-list c = the_list c.args.self.now c.self.inside.order _ _ c.self.view_is c.self.invariant.2
 
 pub returns-clause-entry : goal.returns-clause-entry
 returns-clause-entry c =
@@ -18,4 +18,4 @@ returns-clause-entry c =
     ∙ ap (λ (l : LawList). entry_at l.equations c.args.n) c.self.view_is
 
 pub returns-clause-list : goal.returns-clause-list
-returns-clause-list c = the_list c.args.self.now c.self.inside.order _ c.self.view_is c.self.invariant.2
+returns-clause-list c = the_list c.args.self.now c.self.inside.order _ _ c.self.view_is c.self.invariant.2
