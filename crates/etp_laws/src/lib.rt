@@ -14,3 +14,6 @@ mod word_lists;
 pub use counts::words;
 pub use laws::{Laws, Numbered};
 pub use theorems::{lists_are_this_long, longer_list_begins_with_the_list, the_list_is_one};
+
+#[cfg(test)]
+mod tests;

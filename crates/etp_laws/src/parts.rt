@@ -24,9 +24,7 @@ impl ShapePlace {
     pub fn order(&self, other: &ShapePlace) -> Ordering
         ensures { result ≡ ordering_then (nat_cmp self.now.ops other.now.ops) (nat_cmp self.now.place other.now.place) }
     {
-        self.ops
-            .cmp(&other.ops)
-            .then(self.place.cmp(&other.place))
+        self.ops.cmp(&other.ops).then(self.place.cmp(&other.place))
     }
 
     /// The shape whose parts have these shapes.

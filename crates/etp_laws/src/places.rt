@@ -143,12 +143,24 @@ fn place_of(left: &Term, right: &Term, mirrored: bool) -> u32
     let right_shape = shape_of(right, mirrored);
     let left_word = letters_of(left, mirrored);
     let right_word = letters_of(right, mirrored);
-    let plain = numbered(left_word.as_slice(), right_word.as_slice());
-    let exchanged = numbered(right_word.as_slice(), left_word.as_slice());
     match left_shape.order(&right_shape) {
-        Ordering::Less => place_at(&left_shape, &right_shape, plain.as_slice()),
-        Ordering::Equal => place_at(&left_shape, &right_shape, lesser(plain, exchanged).as_slice()),
-        Ordering::Greater => place_at(&right_shape, &left_shape, exchanged.as_slice()),
+        Ordering::Less => {
+            let plain = numbered(left_word.as_slice(), right_word.as_slice());
+            place_at(&left_shape, &right_shape, plain.as_slice())
+        }
+        Ordering::Equal => {
+            let plain = numbered(left_word.as_slice(), right_word.as_slice());
+            let exchanged = numbered(right_word.as_slice(), left_word.as_slice());
+            place_at(
+                &left_shape,
+                &right_shape,
+                lesser(plain, exchanged).as_slice(),
+            )
+        }
+        Ordering::Greater => {
+            let exchanged = numbered(right_word.as_slice(), left_word.as_slice());
+            place_at(&right_shape, &left_shape, exchanged.as_slice())
+        }
     }
 }
 
