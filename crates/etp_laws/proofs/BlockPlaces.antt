@@ -9,7 +9,7 @@ use Rattle.etp_theory.specs.Trees.{Shape, leaf, fork, shape_ops, shape_leaves}
 use Rattle.etp_theory.specs.Orders.{shape_cmp}
 use Rattle.etp_laws.specs.Enumeration.{pairs_from, shapes, laws_at, laws_of}
 use Rattle.etp_laws.specs.Places.{words_count, shape_rank, block_start_by, block_start, laws_below}
-use Rattle.etp_laws.proofs.Shapes.{shape_total}
+use Rattle.etp_term.proofs.Shapes.{shape_total}
 use Rattle.etp_laws.proofs.Rising.{In}
 use Rattle.etp_laws.proofs.Pairs.{shape_cmp-ops, pairs_are, AreShapes-shapes}
 use Rattle.etp_laws.proofs.Blocks.{length-laws_at-less, leaves_together}

@@ -12,7 +12,7 @@ use Rattle.etp_theory.specs.Trees.{Tree, Shape, leaf, fork, Equation, shape_of, 
 use Rattle.etp_theory.specs.Orders.{shape_cmp}
 use Rattle.etp_laws.specs.Numbering.{numbered}
 use Rattle.etp_laws.specs.Enumeration.{filled, words, pairs_from, shapes, same_tree, is_first_reading, is_listed, is_kept, law_at, laws_at, laws_of, laws_upto}
-use Rattle.etp_laws.proofs.Shapes.{shape_cmp-equal, shape_ops-shape_of}
+use Rattle.etp_term.proofs.Shapes.{shape_cmp-equal, shape_ops-shape_of}
 use Rattle.etp_laws.proofs.Canonical.{cases_Ordering}
 use Rattle.etp_laws.proofs.Rising.{In, All-from_in}
 use Rattle.etp_laws.proofs.Pairs.{pairs_are, AreShapes-shapes}
@@ -20,7 +20,6 @@ use Rattle.etp_laws.proofs.WordLemmas.{words_are, shape_of-filled, word_of-fille
 use Rattle.etp_laws.proofs.TheList.{same_tree-true, same_tree-itself, shapes_of-law_at, law_word-law_at}
 use Rattle.etp_laws.specs.Places.{words_count}
 use Rattle.etp_laws.proofs.Counting.{length-words}
-use Rattle.etp_laws.proofs.Lengths.{laws_upto_4}
 use Rattle.etp_laws.proofs.Unique.{laws_upto_more}
 
 -- a test of what a function gives is a test of the function's arguments
@@ -133,6 +132,10 @@ sizes_5 = refl
 -- the 66 pairs of shapes with five operations whose first is less, with 877 laws each
 pub laws_of_5 : length (laws_of 5) ≡ 57882
 laws_of_5 = length-flat_map_at (pairs_from shapes 5) ∙ sizes_5
+
+pub laws_upto_4 : length (laws_upto 4) ≡ 4694
+unfolding laws_upto
+laws_upto_4 = refl
 
 pub laws_upto_5 : length (laws_upto 5) ≡ 62576
 laws_upto_5 =

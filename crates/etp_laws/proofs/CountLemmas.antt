@@ -42,13 +42,6 @@ pub words_count-some : (r k : ℕ) → 0 < words_count r k
 words_count-some zero k = omega arith
 words_count-some (suc r) k = let m = words_count-some r (k + 1) in omega arith
 
-shapes_table : all_below (λ n. slice_index SHAPES n == length (shapes n)) 6 ≡ true
-unfolding all_below
-shapes_table = refl
-
-pub SHAPES-at : (n : ℕ) → n ≤ 5 → slice_index SHAPES n ≡ length (shapes n)
-SHAPES-at n h = eqb-true (slice_index SHAPES n) (length (shapes n)) (all_below-at (λ n. slice_index SHAPES n == length (shapes n)) 6 n shapes_table (omega arith))
-
 small_shapes_table : all_below (λ n. ltb (length (shapes n)) 43) 6 ≡ true
 unfolding all_below
 small_shapes_table = refl

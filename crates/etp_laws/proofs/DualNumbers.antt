@@ -19,9 +19,10 @@ use Rattle.etp_laws.specs.Listing.{Listed, IsTheList, trivial}
 use Rattle.etp_laws.specs.LawLists.{LawList, entry_at, IsNumberOf, HasNumber, IsDualOf, AreDuals, IsOwnInverse}
 use Rattle.etp_laws.specs.Enumeration.{laws_upto}
 use Rattle.etp_laws.specs.Places.{number_of, dual_numbers}
-use Rattle.etp_laws.proofs.Shapes.{law_total}
+use Rattle.etp_term.proofs.Shapes.{law_total}
 use Rattle.etp_laws.proofs.Rising.{each}
 use Rattle.etp_laws.proofs.Blocks.{In-at}
+use Rattle.etp_laws.proofs.Readings.{Listed-unique}
 use Rattle.etp_laws.proofs.Duals.{dual-dual, law_ops-dual, dual_of_dual}
 use Rattle.etp_laws.proofs.Entries.{the_laws, the_duals, entry_after, entry_zero, Listed-entry, small_entry}
 use Rattle.etp_laws.proofs.TheList.{laws_upto_is}
@@ -75,6 +76,11 @@ one_number k xs n m e l a b =
     let p = x.some in let q = y.some in let r = x.within in let s = y.within in
     let same = once law_cmp law_total xs (n - 1) (m - 1) e l.rising (omega arith) (omega arith) x.at y.at in
     omega arith
+
+pub one_number_of : (k : ℕ) (xs : List Equation) (p : Equation) (n m : ℕ) → IsTheList k xs → IsNumberOf xs p n → IsNumberOf xs p m → n ≡ m
+one_number_of k xs p n m l a b =
+    let same = Listed-unique p b.entry a.entry (Listed-entry k xs m b.entry l b.stands) (Listed-entry k xs n a.entry l a.stands) b.same a.same in
+    one_number k xs n m a.entry l a.stands (b.stands ∙ ap Some same)
 
 -- the dual of a listed law has a number
 HasNumber-dual : (e : Equation) → Listed e → HasNumber (law_dual e)

@@ -14,8 +14,7 @@ use Rattle.etp_laws.specs.Coding.{coded_equation}
 use Rattle.etp_laws.specs.Enumeration.{laws_upto}
 use Rattle.etp_laws.specs.Places.{dual_numbers}
 use Rattle.etp_laws.proofs.TheList.{laws_upto_is}
-use Rattle.etp_laws.proofs.Lengths.{laws_upto_4}
-use Rattle.etp_laws.proofs.Blocks.{laws_upto_5}
+use Rattle.etp_laws.proofs.Blocks.{laws_upto_4, laws_upto_5}
 
 -- what stands behind the truncation of the type's invariant
 pub the_laws : (k : ℕ) (es : List Equation) → ∥ es ≡ laws_upto k ∥₁ → es ≡ laws_upto k

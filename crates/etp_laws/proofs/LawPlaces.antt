@@ -15,7 +15,7 @@ use Rattle.etp_laws.specs.LawLists.{entry_at, IsNumberOf, HasNumber}
 use Rattle.etp_laws.specs.Numbering.{numbered}
 use Rattle.etp_laws.specs.Enumeration.{pairs_from, shapes, is_listed, law_at, laws_at, laws_of, laws_upto}
 use Rattle.etp_laws.specs.Places.{shape_rank, block_start, place_in_block, laws_below, place_at, lesser, place_by, number_of}
-use Rattle.etp_laws.proofs.Shapes.{shape_total, shape_cmp-equal, shape_ops-shape_of}
+use Rattle.etp_term.proofs.Shapes.{shape_total, shape_cmp-equal, shape_ops-shape_of}
 use Rattle.etp_laws.proofs.Numbers.{moved, moved-injective, numbered-map}
 use Rattle.etp_laws.proofs.Canonical.{cases_Ordering, canonical_from_listed, listed_from_canonical}
 use Rattle.etp_laws.proofs.WordLemmas.{length-word_of}

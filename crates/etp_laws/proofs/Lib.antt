@@ -1,4 +1,3 @@
-pub mod Shapes
 pub mod Numbers
 pub mod Canonical
 pub mod Rising
@@ -6,17 +5,14 @@ pub mod WordLemmas
 pub mod Pairs
 pub mod TheList
 pub mod EnumerationLemmas
-pub mod Lengths
 pub mod Unique
 pub mod Readings
 pub mod Counting
 pub mod Duals
 pub mod Trivial
-pub mod Sets
 pub mod FormLemmas
 pub mod LetterLemmas
 pub mod Blocks
-pub mod FormWords
 pub mod Variables
 pub mod Entries
 pub mod Splits

@@ -16,13 +16,6 @@ pub record PartsOf (t : Tree) (i x : ℕ) (w : List ℕ) : Type 0 where
   pub place : x ≡ shape_rank (shape_of t)
   pub word : w ≡ word_of t
 
-pub lesser_keeps : (P : List ℕ → Type 0) (u w : List ℕ) → P u → P w → P (lesser u w)
-lesser_keeps P u w p q = one (is_gt (slice_cmp nat_cmp u w))
-  where
-    one : (b : Bool) → P (cond b w u)
-    one true = q
-    one false = p
-
 -- the law of two terms
 abbrev pub law_of : Tree → Tree → Equation
 law_of a b = record { left = a; right = b }

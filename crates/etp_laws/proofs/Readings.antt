@@ -12,7 +12,7 @@ use Rattle.etp_laws.specs.Enumeration.{law_at}
 use Rattle.etp_laws.specs.Listing.{Listed}
 use Rattle.etp_laws.specs.Numbering.{numbered}
 use Rattle.etp_laws.specs.Canonical.{IsCanonical}
-use Rattle.etp_laws.proofs.Shapes.{shape_total, shape_cmp-equal}
+use Rattle.etp_term.proofs.Shapes.{shape_total, shape_cmp-equal}
 use Rattle.etp_laws.proofs.Numbers.{numbered_by, numbered-map, numbered-numbered}
 use Rattle.etp_laws.proofs.Canonical.{cases_Ordering, shape_of-renamed, law_word-renamed, ops-shape_of, slice_cmp-equal, canonical_from_listed, listed_from_canonical}
 use Rattle.etp_laws.proofs.TheList.{law_at-shapes_of}

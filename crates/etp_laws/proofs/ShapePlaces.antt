@@ -8,7 +8,7 @@ use Rattle.std.specs.List.{range_with_len}
 use Rattle.std.specs.Ordering.{nat_cmp, ordering_then, ordering_reverse}
 use Rattle.std.specs.declared.cmp.Ordering.TheVariants.{Less, Equal, Greater}
 use Rattle.etp_theory.specs.Orders.{shape_cmp}
-use Rattle.etp_laws.proofs.Shapes.{shape_total}
+use Rattle.etp_term.proofs.Shapes.{shape_total}
 use Rattle.etp_theory.specs.Trees.{Shape, leaf, fork, shape_ops}
 use Rattle.etp_laws.specs.Enumeration.{pairs_from, joined, shapes}
 use Rattle.etp_laws.specs.Places.{pairs_below, shape_rank}

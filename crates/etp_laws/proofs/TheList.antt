@@ -15,7 +15,7 @@ use Rattle.etp_laws.specs.Enumeration.{words, pairs_from, joined, shapes, same_t
 use Rattle.etp_laws.specs.Listing.{Listed, IsTheList, trivial}
 use Rattle.etp_laws.specs.Numbering.{numbered, Grows}
 use Rattle.etp_laws.specs.Canonical.{IsCanonical}
-use Rattle.etp_laws.proofs.Shapes.{shape_total, shape_cmp-equal, shape_ops-shape_of, then_assoc}
+use Rattle.etp_term.proofs.Shapes.{shape_total, shape_cmp-equal, shape_ops-shape_of, then_assoc}
 use Rattle.etp_laws.proofs.Numbers.{Grows-numbered_after, numbered_after-Grows}
 use Rattle.etp_laws.proofs.Canonical.{cases_Ordering, canonical_from_listed, listed_from_canonical}
 use Rattle.etp_laws.proofs.Rising.{In, In-map, In-map_source, In-flat_map, In-flat_map_source, In-filter, In-filter_source, In-range, In-range_bounds, Rising-map, Rising-flat_map, Rising-range, Contains-from_in, All-from_in}

@@ -35,22 +35,3 @@ none_same p s lone e l (f, inj, inr h) = one l.sides
     one : ((e.left ≢ e.right) ⊎ (e ≡ trivial)) → ⊥
     one (inl n) = n (ap (λ (q : Equation). q.right) (sym h) ∙ ap (renamed f) (sym s) ∙ ap (λ (q : Equation). q.left) h)
     one (inr t) = let v = renamed-var f p.left (ap (λ (q : Equation). q.left) (h ∙ ap exchanged t)) in lone v.0 v.1
-
--- a law whose left side is a variable has a number
-pub HasNumber-var : (v : ℕ) (t : Tree) → HasNumber (record { left = var v; right = t })
-HasNumber-var v (var w) = one (cases_order v w)
-  where
-    same_var : var v ≡ var w → v ≡ w
-    same_var e = cc
-
-    one : ((v ≡ w) ⊎ ((v < w) ⊎ (w < v))) → HasNumber (record { left = var v; right = var w })
-    one (inl e) = inr (v, refl, ap var (sym e))
-    one (inr (inl l)) = inl (λ e. let h = same_var e in absurd (omega arith))
-    one (inr (inr l)) = inl (λ e. let h = same_var e in absurd (omega arith))
-HasNumber-var v (op a b) = inl (λ e. cc)
-
-pub HasNumber-op_var : (a b : Tree) (w : ℕ) → HasNumber (record { left = op a b; right = var w })
-HasNumber-op_var a b w = inl (λ e. cc)
-
-pub IsTrivial-op : (a b t : Tree) → op a b ≡ t → IsTrivial (record { left = op a b; right = t })
-IsTrivial-op a b t e = (e, λ v h. cc)

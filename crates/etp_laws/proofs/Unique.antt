@@ -4,11 +4,10 @@ use Rattle.etp_theory.specs.Orders.{law_cmp}
 use Rattle.etp_theory.specs.Trees.{Equation, law_ops}
 use Rattle.etp_laws.specs.Enumeration.{laws_of, laws_upto}
 use Rattle.etp_laws.specs.Listing.{Listed, IsTheList}
-use Rattle.etp_laws.proofs.Shapes.{law_total}
+use Rattle.etp_term.proofs.Shapes.{law_total}
 use Rattle.etp_laws.proofs.Rising.{In, Contains-from_in}
 use Rattle.etp_laws.proofs.EnumerationLemmas.{rising_unique, flat_map_range_more}
 use Rattle.etp_laws.proofs.TheList.{laws_upto_is}
-use Rattle.etp_laws.proofs.Lengths.{laws_upto_4}
 
 pub In-from_contains : {X : Type 0} (xs : List X) (x : X) → Contains xs x → In x xs
 In-from_contains xs x h = at xs h.0 h.1 h.2

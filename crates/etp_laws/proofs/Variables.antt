@@ -5,7 +5,7 @@ use Rattle.etp_theory.specs.Trees.{Tree, var, op, Equation, shape_of, shape_ops,
 use Rattle.etp_laws.specs.Numbering.{Grows}
 use Rattle.etp_laws.specs.Listing.{Listed}
 use Rattle.etp_laws.specs.LawLists.{HasVariables}
-use Rattle.etp_laws.proofs.Shapes.{shape_ops-shape_of}
+use Rattle.etp_term.proofs.Shapes.{shape_ops-shape_of}
 use Rattle.etp_laws.proofs.Numbers.{Grows-numbered_after}
 use Rattle.etp_laws.proofs.Canonical.{canonical_from_listed}
 use Rattle.etp_laws.proofs.Rising.{In, Contains-from_in}

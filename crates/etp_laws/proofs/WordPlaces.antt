@@ -10,7 +10,7 @@ use Rattle.etp_theory.specs.Orders.{shape_cmp}
 use Rattle.etp_laws.specs.Numbering.{Grows}
 use Rattle.etp_laws.specs.Enumeration.{used_after, words, is_first_reading, is_listed, is_kept, law_at, laws_at}
 use Rattle.etp_laws.specs.Places.{words_count, rank, place_in_block}
-use Rattle.etp_laws.proofs.Shapes.{shape_cmp-equal}
+use Rattle.etp_term.proofs.Shapes.{shape_cmp-equal}
 use Rattle.etp_laws.proofs.Canonical.{cases_Ordering}
 use Rattle.etp_laws.proofs.WordLemmas.{used_after-old, used_after-new}
 use Rattle.etp_laws.proofs.Counting.{length-words, length-words_below}

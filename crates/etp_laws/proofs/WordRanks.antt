@@ -11,16 +11,6 @@ use Rattle.etp_laws.proofs.WordLemmas.{used_after-old, used_after-new}
 use Rattle.etp_laws.proofs.Counting.{length-words, words-rank}
 use Rattle.etp_laws.proofs.CountLemmas.{words_count-some, small_words}
 
--- one more letter of the word
-pub rank_more : (w : List ℕ) (i used v : ℕ) → i < length w → v ≡ get_or w i 0 → rank used (drop i w) ≡ v * words_count (length w - 1 - i) used + rank (used_after used v) (drop (i + 1) w)
-rank_more w i used v h e =
-    let more : v ∷ drop (i + 1) w ≡ drop i w = ap (λ x. x ∷ drop (i + 1) w) e ∙ rw add-one (sym (drop-cons w i 0 h)) in
-    let rest : length (drop (i + 1) w) ≡ length w - 1 - i = length-drop (i + 1) w ∙ same (length w) i in
-    ap (rank used) (sym more) ∙ ap (λ n. v * words_count n used + rank (used_after used v) (drop (i + 1) w)) rest
-  where
-    same : (n i : ℕ) → n - (i + 1) ≡ n - 1 - i
-    same n i = omega arith
-
 times_le : (a b c : ℕ) → a ≤ b → a * c ≤ b * c
 times_le a b c h = grind arith
 
@@ -111,12 +101,6 @@ unrank_more m n used rest e = let next : m ≡ suc n = omega arith in ap (λ k. 
 
 pub within_more : (m n used rest : ℕ) → m ≡ n + 1 → rest < words_count m used → rest < used * words_count n used + words_count n (used + 1)
 within_more m n used rest e h = let next : m ≡ suc n = omega arith in subst (λ k. rest < words_count k used) next h
-
--- one more word before the place
-pub kept_more : (m i : ℕ) (w : List ℕ) → w ≡ get_or (words (m + m) 0) i [] → i < words_count (m + m) 0 → length (filter (is_kept m) (take (i + 1) (words (m + m) 0))) ≡ length (filter (is_kept m) (take i (words (m + m) 0))) + cond (is_kept m w) 1 0
-kept_more m i w e h =
-    length-filter_more (is_kept m) (words (m + m) 0) i [] (subst (λ n. i < n) (sym (length-words (m + m) 0)) h)
-    ∙ ap (λ u. length (filter (is_kept m) (take i (words (m + m) 0))) + cond (is_kept m u) 1 0) (sym e)
 
 pub rank-below : (w : List ℕ) → Grows 0 w → rank 0 w < words_count (length w) 0
 rank-below w g = (words-rank w 0 g).below

@@ -13,7 +13,10 @@ mod word_lists;
 
 pub use counts::words;
 pub use laws::{Laws, Numbered};
-pub use theorems::{lists_are_this_long, longer_list_begins_with_the_list, the_list_is_one};
+pub use theorems::{
+    lists_are_this_long, longer_list_begins_with_the_list, numbers_are_one, the_list_is_one,
+    trivial_laws_have_no_number,
+};
 
 #[cfg(test)]
 mod tests;

@@ -1,7 +1,6 @@
 use Rattle.std.proofs.Common.{length, ◌∙◌, ap}
 use Rattle.etp_laws.proofs.Unique.{IsTheList-is}
-use Rattle.etp_laws.proofs.Lengths.{laws_upto_4}
-use Rattle.etp_laws.proofs.Blocks.{laws_upto_5}
+use Rattle.etp_laws.proofs.Blocks.{laws_upto_4, laws_upto_5}
 use Rattle.etp_laws.proofs.theorems.lists_are_this_long.Goals as goal
 
 pub returns-clause-four : goal.returns-clause-four
