@@ -1,6 +1,6 @@
 -- Which position a list of the program stands for.
 use Rattle.std.specs.Prelude.{List, map}
-use Rattle.etp_theory.specs.Positions.{to_left, to_right} 
+use Rattle.etp_theory.specs.Positions.{to_left, to_right}
 use Rattle.etp_theory.specs.Positions as Theory
 use Rattle.etp_term.specs.declared.position.Side.{Side}
 use Rattle.etp_term.specs.declared.position.Side.TheVariants.{L, R}

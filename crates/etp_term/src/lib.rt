@@ -11,3 +11,6 @@ pub use position::{Position, Side};
 pub use std::alloc::AllocError as NoMemory;
 pub use term::Term;
 pub use word::Word;
+
+#[cfg(test)]
+mod tests;

@@ -101,7 +101,8 @@ impl Term {
     {
         match (self, other) {
             (Term::Var(v), Term::Var(w)) => v.cmp(w),
-            (Term::Op(a, b), Term::Op(c, d)) => a.get()
+            (Term::Op(a, b), Term::Op(c, d)) => a
+                .get()
                 .word_cmp(c.get())
                 .then(b.get().word_cmp(d.get())),
             _ => Ordering::Equal,

@@ -1,3 +1,108 @@
 //! Terms, laws, derivations, magmas and rewriting: what a reader must believe, and what mathematics
 //! gives. Each theorem is the contract of a function with an empty body.
 #![tactic(auto)]
+
+mod magma;
+#[cfg(test)]
+mod tests;
+
+ghost use Rattle.etp_theory.specs.Examples.{Examples};
+ghost use Rattle.etp_theory.specs.Theorems.{TermLaws, OrderLaws, SubstitutionLaws, PositionLaws, DualLaws, SamenessLaws, DerivationLaws, ProofLaws, MagmaLaws, TableLaws, WeightLaws, RewritingLaws, StrategyLaws, NewmanLaws, UnificationLaws, CriticalPairLaws, NormalFormLaws, ReachLaws};
+
+pub use magma::{Magma, keeps_derived};
+
+/// Operations, leaves, shape and word of a term.
+pub fn term_laws()
+    ensures { TermLaws }
+{}
+
+/// The orders of shapes and of laws.
+pub fn order_laws()
+    ensures { OrderLaws }
+{}
+
+/// Substitutions are total functions from variables to terms; finite partial maps do the same on
+/// any two terms.
+pub fn substitution_laws()
+    ensures { SubstitutionLaws }
+{}
+
+/// Subterms and replacement at a position.
+pub fn position_laws()
+    ensures { PositionLaws }
+{}
+
+/// The dual of a term, both parts of every operation exchanged.
+pub fn dual_laws()
+    ensures { DualLaws }
+{}
+
+/// Laws that differ by the names of their variables and the order of their sides alone.
+pub fn sameness_laws()
+    ensures { SamenessLaws }
+{}
+
+/// Derivations by Birkhoff's rules (Birkhoff 1935).
+pub fn derivation_laws()
+    ensures { DerivationLaws }
+{}
+
+/// What a proof by lemmas and steps concludes is derived, where the laws that it cites are.
+pub fn proof_laws()
+    ensures { ProofLaws }
+{}
+
+/// Derivations conclude only what holds in every magma of their law (Birkhoff 1935).
+pub fn magma_laws()
+    ensures { MagmaLaws }
+{}
+
+/// A law holds in a finite magma where it holds at every list of values.
+pub fn table_laws()
+    ensures { TableLaws }
+{}
+
+/// Linear weights of terms, and rules that lower all of them.
+pub fn weight_laws()
+    ensures { WeightLaws }
+{}
+
+/// One rewriting, by cases and by a position, and what it does to weights.
+pub fn rewriting_laws()
+    ensures { RewritingLaws }
+{}
+
+/// The strategy: the left part first, then the right part, then the root, by the lowest rule.
+pub fn strategy_laws()
+    ensures { StrategyLaws }
+{}
+
+/// One normal form from local confluence (Newman 1942).
+pub fn newman_laws()
+    ensures { NewmanLaws }
+{}
+
+/// Most general unifiers (Robinson 1965).
+pub fn unification_laws()
+    ensures { UnificationLaws }
+{}
+
+/// Local confluence from critical pairs (Knuth and Bendix 1970, Huet 1980).
+pub fn critical_pair_laws()
+    ensures { CriticalPairLaws }
+{}
+
+/// The magma of the normal forms of a convergent system.
+pub fn normal_form_laws()
+    ensures { NormalFormLaws }
+{}
+
+/// What accepted proofs and refutations say of all pairs of laws.
+pub fn reach_laws()
+    ensures { ReachLaws }
+{}
+
+/// Small laws and systems at which the definitions are computed.
+pub fn worked_examples()
+    ensures { Examples }
+{}

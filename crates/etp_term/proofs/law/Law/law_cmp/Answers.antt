@@ -1,6 +1,5 @@
-use Rattle.std.proofs.Common.{◌≡◌, ℕ, ◌+◌, ◌≤◌, min, arith}
-use Rattle.etp_theory.specs.Trees.{ops, law_ops}
-use Rattle.etp_term.specs.Terms.{tree_of}
+use Rattle.std.proofs.Common.{◌≡◌, ◌+◌, arith}
+use Rattle.etp_theory.specs.Trees.{law_ops}
 use Rattle.etp_term.specs.Laws.{equation_of}
 use Rattle.etp_term.proofs.WordOrder.{law_cmp-parts}
 use Rattle.etp_term.proofs.law.Law.law_cmp.Goals as goal

@@ -1,4 +1,4 @@
-use Rattle.std.proofs.Common.{◌≡◌, ℕ, ◌+◌, ap, ◌∙◌}
+use Rattle.std.proofs.Common.{◌≡◌, ◌+◌, ap, ◌∙◌}
 use Rattle.etp_theory.specs.Trees.{op, ops}
 use Rattle.etp_term.specs.Terms.{tree_of}
 use Rattle.etp_term.proofs.Opened.{tree_of-op}

@@ -1,0 +1,331 @@
+-- A session between two lines.
+use Rattle.std.proofs.Common.{◌≡◌, ℕ, ◌+◌, ◌-◌, ◌≤◌, List, [], ◌∷◌, ◌++◌, length, length-append, take, drop, Option, None, Some, Bool, true, false, ◌||◌, IsTrue, refl, sym, ◌∙◌, ap, arith, append_assoc, append-nil}
+use Rattle.std.proofs.lemmas.List.{length-drop}
+use Rattle.std.specs.Option.{IfSome}
+use Rattle.std.specs.Prelude.{Ok, Err, Result}
+use Rattle.etp_io.specs.declared.lines.InFault.{InFault}
+use Rattle.std.specs.Io.KnownBytes.{Appends, IsAtEnd, prepend_known}
+use Rattle.etp_io.specs.Texts.{LineText, lines_of, to_last_newline, NoNewline}
+use Rattle.etp_io.specs.Stream.{IsPrefix, Loses}
+use Rattle.etp_io.specs.Counts.{RisesBy}
+use Rattle.etp_io.specs.Reader.{Reader, SaysTooMuch}
+use Rattle.etp_io.specs.Reads.{NoneBefore}
+use Rattle.etp_io.specs.Answers.{Fits, GivesLines, PartGives, to_come, says}
+use Rattle.etp_io.specs.declared.lines.Next.{Next}
+use Rattle.etp_io.specs.declared.lines.Next.TheVariants.{Line, Long, End}
+use Rattle.etp_io.proofs.Laws.{Appends-then, Appends-none, IsPrefix-all, Loses-then, Loses-none, lines_of-append}
+use Rattle.etp_session.specs.Commands.{asked}
+use Rattle.etp_session.specs.Replies.{State, unopened, reply_text, is_refusal}
+use Rattle.etp_session.specs.Sessions.{Item, Session, IsSession, Begins, items_from, items_of}
+use Rattle.etp_session.specs.Given.{line_text, GivesReply, WritesReply, WritesNothing, WritesSome}
+use Rattle.etp_session.specs.Ends.{WritesPrefix, WritesWholeLines, EndsWell, Takes, TakesWithin, StopsAtFault}
+use Rattle.etp_session.proofs.Parts.{to_last_newline-both, to_last_newline-take}
+use Rattle.etp_session.proofs.SessionLemmas.{Session-then, items_from-append}
+
+-- a part of the bytes was answered, with this text, and others are to come
+pub record Sofar (ended : Bool) (number : ℕ) (bytes coming text : List ℕ) (bad : Bool) (state : State) : Type 0 where
+  pub part : List ℕ
+  pub joined : bytes ≡ part ++ coming
+  pub counted : length (lines_of part) ≡ number
+  pub newline : ended ≡ false → to_last_newline part ≡ part
+  pub over : IsTrue ended → coming ≡ []
+  pub session : Session unopened (items_of part) text bad state
+
+abbrev pub KnownSofar : Bool → ℕ → Option (List ℕ) → Option (List ℕ) → List ℕ → Bool → State → Type 0
+KnownSofar ended number None coming text bad state = Unit {0}
+KnownSofar ended number (Some bytes) None text bad state = ⊥
+KnownSofar ended number (Some bytes) (Some coming) text bad state = Sofar ended number bytes coming text bad state
+
+pub record Running (told left : Option (List ℕ)) (last : ℕ) (took_before took : Option (List ℕ)) (given_before given : ℕ) (limit : ℕ) (reader : Reader) (bad : Bool) (state : State) : Type 0 where
+  pub text : List ℕ
+  pub written : Appends took_before took text
+  pub sofar : KnownSofar reader.ended reader.number told (to_come reader left) text bad state
+  pub fits : Fits reader left last
+  pub open_still : reader.fault ≡ None
+  pub limited : reader.limit ≡ limit
+  pub counted : reader.number ≤ reader.taken
+  pub within : reader.taken ≤ limit
+  pub takes : Takes told left given_before given reader.taken
+
+-- no line comes after the end
+no_part : (part now : List ℕ) → [] ≡ part ++ now → part ≡ []
+no_part [] now e = refl
+no_part (b ∷ part) now e = absurd (cc)
+
+-- a line was answered
+line-then : (ended ended' : Bool) (number number' : ℕ) (bytes coming coming' text more : List ℕ) (bad also : Bool) (line : LineText) (state state' : State)
+    → Sofar ended number bytes coming text bad state → PartGives ended' coming coming' (line ∷ []) → number' ≡ number + 1
+    → GivesReply state (asked line) number' more also state'
+    → Sofar ended' number' bytes coming' (text ++ more) (bad || also) state'
+line-then true ended' number number' bytes coming coming' text more bad also line state state' h g e r =
+    let none : g.part ≡ [] = no_part g.part coming' (sym (h.over refl) ∙ g.joined) in
+    let lines : [] ≡ line ∷ [] = sym (ap lines_of none) ∙ g.lines in
+    absurd (cc)
+line-then false ended' number number' bytes coming coming' text more bad also line state state' h g e r =
+    let item : Item = record { number = number + 1; line = line } in
+    let whole : to_last_newline h.part ≡ h.part = h.newline refl in
+    let lines : lines_of (h.part ++ g.part) ≡ lines_of h.part ++ line ∷ [] = lines_of-append h.part g.part whole ∙ ap (λ (l : List LineText). lines_of h.part ++ l) g.lines in
+    let counts : 1 + length (lines_of h.part) ≡ number + 1 = omega (arith, h.counted) in
+    let items : items_of (h.part ++ g.part) ≡ items_of h.part ++ item ∷ [] =
+    ap (items_from 1) lines ∙ items_from-append 1 (lines_of h.part) (line ∷ []) ∙ ap (λ n. items_of h.part ++ items_from n (line ∷ [])) counts in
+    let grown : Session unopened (items_of h.part ++ item ∷ []) (text ++ reply_text (number + 1) r.reply) (bad || is_refusal r.reply) state' =
+    Session-then unopened state state' (items_of h.part) item text bad r.reply h.session r.replies in
+    record {
+      part = h.part ++ g.part;
+      joined = h.joined ∙ ap (λ (l : List ℕ). h.part ++ l) g.joined ∙ sym (append_assoc h.part g.part coming');
+      counted = ap (λ (l : List LineText). length l) lines ∙ length-append (lines_of h.part) (line ∷ []) ∙ ap (λ n. n + 1) h.counted ∙ sym e;
+      newline = λ open_still. to_last_newline-both h.part g.part whole (g.newline open_still);
+      over = g.over;
+      session = rw (items, r.text_is, r.refused_is, e) grown;
+    }
+
+KnownSofar-then : (ended ended' : Bool) (number number' : ℕ) (told coming coming' : Option (List ℕ)) (text more : List ℕ) (bad also : Bool) (line : LineText) (state state' : State)
+    → KnownSofar ended number told coming text bad state → GivesLines ended' coming coming' (line ∷ []) → number' ≡ number + 1
+    → GivesReply state (asked line) number' more also state'
+    → KnownSofar ended' number' told coming' (text ++ more) (bad || also) state'
+KnownSofar-then ended ended' number number' None coming coming' text more bad also line state state' h g e r = tt
+KnownSofar-then ended ended' number number' (Some bytes) None coming' text more bad also line state state' h g e r = absurd h
+KnownSofar-then ended ended' number number' (Some bytes) (Some c) None text more bad also line state state' h g e r = absurd g
+KnownSofar-then ended ended' number number' (Some bytes) (Some c) (Some d) text more bad also line state state' h g e r =
+    line-then ended ended' number number' bytes c d text more bad also line state state' h g e r
+
+-- it ends between two lines
+begins : (ended : Bool) (number : ℕ) (bytes coming text : List ℕ) (bad : Bool) (state : State) → Sofar ended number bytes coming text bad state → Begins bytes text
+begins true number bytes coming text bad state h =
+    let all : bytes ≡ h.part = h.joined ∙ ap (λ (l : List ℕ). h.part ++ l) (h.over refl) ∙ append-nil h.part in
+    record { done = items_of h.part; left = []; items = ap items_of all ∙ sym (append-nil (items_of h.part)); text = text; refused = bad; last = state; session = h.session; prefix = IsPrefix-all text }
+begins false number bytes coming text bad state h =
+    let lines : lines_of bytes ≡ lines_of h.part ++ lines_of coming = ap lines_of h.joined ∙ lines_of-append h.part coming (h.newline refl) in
+    record {
+      done = items_of h.part;
+      left = items_from (1 + length (lines_of h.part)) (lines_of coming);
+      items = ap (items_from 1) lines ∙ items_from-append 1 (lines_of h.part) (lines_of coming);
+      text = text;
+      refused = bad;
+      last = state;
+      session = h.session;
+      prefix = IsPrefix-all text;
+    }
+
+KnownSofar-begins : (ended : Bool) (number : ℕ) (told coming : Option (List ℕ)) (text : List ℕ) (bad : Bool) (state : State)
+    → KnownSofar ended number told coming text bad state → IfSome told (λ bytes. Begins bytes text)
+KnownSofar-begins ended number None coming text bad state h = tt
+KnownSofar-begins ended number (Some bytes) None text bad state h = absurd h
+KnownSofar-begins ended number (Some bytes) (Some c) text bad state h = begins ended number bytes c text bad state h
+
+-- it ends in the middle of a reply
+begins-in : (bytes text front more : List ℕ) → IsPrefix front more → Begins bytes (text ++ more) → Begins bytes (text ++ front)
+begins-in bytes text front more p b = record {
+  done = b.done;
+  left = b.left;
+  items = b.items;
+  text = b.text;
+  refused = b.refused;
+  last = b.last;
+  session = b.session;
+  prefix = record {
+    rest = p.rest ++ b.prefix.rest;
+    joined = b.prefix.joined ∙ ap (λ (l : List ℕ). l ++ b.prefix.rest) (ap (λ (l : List ℕ). text ++ l) p.joined ∙ sym (append_assoc text front p.rest)) ∙ append_assoc (text ++ front) p.rest b.prefix.rest;
+  };
+}
+
+KnownSofar-cut : (told : Option (List ℕ)) (text front more : List ℕ) → IsPrefix front more
+    → IfSome told (λ bytes. Begins bytes (text ++ more)) → IfSome told (λ bytes. Begins bytes (text ++ front))
+KnownSofar-cut None text front more p b = tt
+KnownSofar-cut (Some bytes) text front more p b = begins-in bytes text front more p b
+
+-- it ends with the bytes
+KnownSofar-all : (ended ended' : Bool) (number : ℕ) (told coming coming' : Option (List ℕ)) (text : List ℕ) (bad : Bool) (state : State)
+    → KnownSofar ended number told coming text bad state → GivesLines ended' coming coming' [] → IsAtEnd coming'
+    → IfSome told (λ bytes. IsSession bytes text bad)
+KnownSofar-all ended ended' number None coming coming' text bad state h g a = tt
+KnownSofar-all ended ended' number (Some bytes) None coming' text bad state h g a = absurd h
+KnownSofar-all ended ended' number (Some bytes) (Some c) None text bad state h g a = absurd g
+KnownSofar-all ended ended' number (Some bytes) (Some c) (Some d) text bad state h g a = all ended h
+  where
+    all : (ended : Bool) → Sofar ended number bytes c text bad state → IsSession bytes text bad
+    all true h =
+        let same : bytes ≡ h.part = h.joined ∙ ap (λ (l : List ℕ). h.part ++ l) (h.over refl) ∙ append-nil h.part in
+        record { last = state; session = rw same h.session }
+    all false h =
+        let rest : lines_of c ≡ [] = ap lines_of (g.joined ∙ ap (λ (l : List ℕ). g.part ++ l) a ∙ append-nil g.part) ∙ g.lines in
+        let lines : lines_of bytes ≡ lines_of h.part = ap lines_of h.joined ∙ lines_of-append h.part c (h.newline refl) ∙ rw rest (append-nil (lines_of h.part)) in
+        record { last = state; session = rw lines h.session }
+
+-- it ends where a read failed or the limit was passed: what stands whole before the last read is the part that was answered
+stopped : (number : ℕ) (bytes part held left text : List ℕ) (bad : Bool) (state : State) (taken taken' last : ℕ)
+    → bytes ≡ part ++ (held ++ left) → to_last_newline part ≡ part → left ≡ drop taken bytes → taken ≤ length bytes
+    → Session unopened (items_of part) text bad state
+    → NoNewline (take (length held + (taken' - taken) - last) (held ++ left)) → last ≤ taken' - taken → taken ≤ taken'
+    → IsSession (to_last_newline (take (taken' - last) bytes)) text bad
+stopped number bytes part held left text bad state taken taken' last joined whole lost many session none small later =
+    let size : length bytes ≡ length part + (length held + length left) = ap (λ (l : List ℕ). length l) joined ∙ length-append part (held ++ left) ∙ ap (λ n. length part + n) (length-append held left) in
+    let less : length left ≡ length bytes - taken = ap (λ (l : List ℕ). length l) lost ∙ length-drop taken bytes in
+    let e : length part + (length held + (taken' - taken) - last) ≡ taken' - last = omega (arith, size, less, many) in
+    let same : to_last_newline (take (taken' - last) bytes) ≡ part = rw e at (to_last_newline-take bytes part (held ++ left) (length held + (taken' - taken) - last) joined whole none) in
+    record { last = state; session = rw same session }
+
+KnownSofar-stops : (number : ℕ) (told left : Option (List ℕ)) (held text : List ℕ) (bad : Bool) (state : State) (taken taken' last : ℕ)
+    → KnownSofar false number told (prepend_known held left) text bad state → Loses told left taken
+    → NoneBefore (prepend_known held left) (length held + (taken' - taken) - last) → last ≤ taken' - taken → taken ≤ taken'
+    → IfSome told (λ bytes. IsSession (to_last_newline (take (taken' - last) bytes)) text bad)
+KnownSofar-stops number None left held text bad state taken taken' last h l n small later = tt
+KnownSofar-stops number (Some bytes) None held text bad state taken taken' last h l n small later = absurd h
+KnownSofar-stops number (Some bytes) (Some left) held text bad state taken taken' last h l n small later =
+    stopped number bytes h.part held left text bad state taken taken' last h.joined (h.newline refl) l.0 l.1 h.session n small later
+
+takes-more : (told left left' : Option (List ℕ)) (g0 g g' n n' : ℕ) → Takes told left g0 g n → Loses left left' (n' - n) → RisesBy g g' (n' - n) → n ≤ n'
+    → Takes told left' g0 g' n'
+takes-more told left left' g0 g g' n n' h l r le =
+    let e : n + (n' - n) ≡ n' = omega arith in
+    record { loses = rw e at (Loses-then told left left' n (n' - n) h.loses l); risen = omega (arith, h.risen, r.risen) }
+
+pub starts-running : (told : Option (List ℕ)) (last : ℕ) (took : Option (List ℕ)) (given limit : ℕ) (reader : Reader)
+    → reader ≡ record { limit = limit; taken = 0; number = 0; held = []; line = []; ended = false; fault = None }
+    → Running told told last took took given given limit reader false unopened
+starts-running told last took given limit reader e = rw e (record {
+  text = [];
+  written = Appends-none took;
+  sofar = known told;
+  fits = record { at_end = λ h. absurd (false_is_true h); last_gave = λ h. absurd (false_is_true h); held = omega arith };
+  open_still = refl;
+  limited = refl;
+  counted = omega arith;
+  within = omega arith;
+  takes = record { loses = Loses-none told; risen = omega arith };
+})
+  where
+    false_is_true : false ≡ true → ⊥
+    false_is_true e = cc
+
+    known : (told : Option (List ℕ)) → KnownSofar false 0 told (prepend_known [] told) [] false unopened
+    known None = tt
+    known (Some bytes) = record { part = []; joined = refl; counted = refl; newline = λ e. refl; over = λ h. absurd (false_is_true h); session = (refl, refl, refl) }
+
+pub says-line : (next : Next) (line : List ℕ) → (next ≡ End → ⊥) → says next line ≡ line_text next line ∷ []
+says-line Line line n = refl
+says-line Long line n = refl
+says-line End line n = absurd (n refl)
+
+pub running-then : (told left left' : Option (List ℕ)) (last last' : ℕ) (took0 took took' : Option (List ℕ)) (g0 g g' limit : ℕ) (r r' : Reader) (bad also : Bool) (next : Next) (state state' : State)
+    → Running told left last took0 took g0 g limit r bad state
+    → (Fits r left last → Fits r' left' last')
+    → (Fits r left last → GivesLines r'.ended (to_come r left) (to_come r' left') (says next r'.line))
+    → (next ≡ End → ⊥)
+    → r'.number ≡ r.number + length (says next r'.line)
+    → r'.fault ≡ None → SaysTooMuch r'.limit r'.taken r'.fault → r'.limit ≡ r.limit
+    → r'.number ≤ r'.taken → r.taken ≤ r'.taken
+    → Loses left left' (r'.taken - r.taken) → RisesBy g g' (r'.taken - r.taken)
+    → WritesReply state (asked (line_text next r'.line)) r'.number took took' also state'
+    → Running told left' last' took0 took' g0 g' limit r' (bad || also) state'
+running-then told left left' last last' took0 took took' g0 g g' limit r r' bad also next state state' h fits lines more number fault says_fault same_limit counted later loses given w =
+    let one : says next r'.line ≡ line_text next r'.line ∷ [] = says-line next r'.line more in
+    let within : r'.taken ≤ r'.limit = rw fault at says_fault in
+    record {
+      text = h.text ++ w.text;
+      written = Appends-then took0 took took' h.text w.text h.written w.written;
+      sofar = KnownSofar-then r.ended r'.ended r.number r'.number told (to_come r left) (to_come r' left') h.text w.text bad also (line_text next r'.line) state state' h.sofar (rw one at (lines h.fits)) (rw one at number) w.gives;
+      fits = fits h.fits;
+      open_still = fault;
+      limited = same_limit ∙ h.limited;
+      counted = counted;
+      within = omega (arith, within, same_limit, h.limited);
+      takes = takes-more told left left' g0 g g' r.taken r'.taken h.takes loses given later;
+    }
+
+-- it ends where the source ends
+pub ends-well : (told left left' : Option (List ℕ)) (last last' : ℕ) (took0 took : Option (List ℕ)) (g0 g limit : ℕ) (r r' : Reader) (bad : Bool) (state : State)
+    → Running told left last took0 took g0 g limit r bad state
+    → (Fits r left last → Fits r' left' last')
+    → (Fits r left last → GivesLines r'.ended (to_come r left) (to_come r' left') [])
+    → r'.held ≡ [] → r'.ended ≡ true
+    → EndsWell told left' took0 took last' bad
+ends-well told left left' last last' took0 took g0 g limit r r' bad state h fits lines none ended =
+    let there : IsTrue r'.ended = ended in
+    let left_none : IsAtEnd left' = (fits h.fits).at_end there in
+    record {
+      writes = record { text = h.text; written = h.written; session = KnownSofar-all r.ended r'.ended r.number told (to_come r left) (to_come r' left') h.text bad state h.sofar (lines h.fits) (rw none (at-end left' left_none)) };
+      at_end = left_none;
+      last_gave = (fits h.fits).last_gave there;
+    }
+  where
+    at-end : (left : Option (List ℕ)) → IsAtEnd left → IsAtEnd (prepend_known [] left)
+    at-end None a = tt
+    at-end (Some xs) a = a
+
+-- it ends between two lines
+pub ends-between : (told left : Option (List ℕ)) (last : ℕ) (took0 took : Option (List ℕ)) (g0 g limit : ℕ) (r : Reader) (bad : Bool) (state : State)
+    → Running told left last took0 took g0 g limit r bad state → WritesPrefix told took0 took
+ends-between told left last took0 took g0 g limit r bad state h = record { text = h.text; written = h.written; begins = KnownSofar-begins r.ended r.number told (to_come r left) h.text bad state h.sofar }
+
+pub takes-within : (told left left' : Option (List ℕ)) (last : ℕ) (took0 took : Option (List ℕ)) (g0 g g' limit : ℕ) (r r' : Reader) (bad : Bool) (state : State)
+    → Running told left last took0 took g0 g limit r bad state
+    → r'.taken ≤ r'.limit → r'.limit ≡ r.limit → r.taken ≤ r'.taken
+    → Loses left left' (r'.taken - r.taken) → RisesBy g g' (r'.taken - r.taken)
+    → TakesWithin told left' g0 g' limit
+takes-within told left left' last took0 took g0 g g' limit r r' bad state h within same_limit later loses given =
+    record { count = r'.taken; within = omega (arith, within, same_limit, h.limited); takes = takes-more told left left' g0 g g' r.taken r'.taken h.takes loses given later }
+
+-- it ends where a read failed or the limit was passed
+pub stops : (told left : Option (List ℕ)) (last last' : ℕ) (took0 took : Option (List ℕ)) (g0 g limit : ℕ) (r r' : Reader) (bad : Bool) (state : State)
+    → Running told left last took0 took g0 g limit r bad state
+    → r.ended ≡ false
+    → NoneBefore (to_come r left) (length r.held + (r'.taken - r.taken) - last')
+    → last' ≤ r'.taken - r.taken → r.taken ≤ r'.taken
+    → WritesWholeLines told took0 took (r'.taken - last')
+stops told left last last' took0 took g0 g limit r r' bad state h not_ended none small later = record {
+  text = h.text;
+  refused = bad;
+  written = h.written;
+  session = KnownSofar-stops r.number told left r.held h.text bad state r.taken r'.taken last' (rw not_ended at h.sofar) h.takes.loses none small later;
+}
+
+-- a read failed
+pub stops-at_fault : (told left left' : Option (List ℕ)) (last last' : ℕ) (took0 took : Option (List ℕ)) (g0 g g' limit : ℕ) (r r' : Reader) (bad : Bool) (state : State)
+    → Running told left last took0 took g0 g limit r bad state
+    → r.ended ≡ false
+    → NoneBefore (to_come r left) (length r.held + (r'.taken - r.taken) - last')
+    → last' ≡ 0
+    → r'.taken ≤ r'.limit → r'.limit ≡ r.limit → r.taken ≤ r'.taken
+    → Loses left left' (r'.taken - r.taken) → RisesBy g g' (r'.taken - r.taken)
+    → StopsAtFault told left' took0 took g0 g' limit
+stops-at_fault told left left' last last' took0 took g0 g g' limit r r' bad state h not_ended none no_last within same_limit later loses given =
+    let all : r'.taken - last' ≡ r'.taken = omega arith in
+    record {
+      count = r'.taken;
+      within = omega (arith, within, same_limit, h.limited);
+      takes = takes-more told left left' g0 g g' r.taken r'.taken h.takes loses given later;
+      writes = rw all at (stops told left last last' took0 took g0 g limit r r' bad state h not_ended none (omega arith) later);
+    }
+
+-- a call that fails made a read, so the source had not ended
+pub goes-on : (result : Result Next InFault) (fault : InFault) (ended : Bool) → result ≡ Err fault → (ended ≡ true → result ≡ Ok End) → ended ≡ false
+goes-on result fault true e h = let both : Err fault ≡ Ok End = sym e ∙ h refl in absurd (cc)
+goes-on result fault false e h = refl
+
+-- a reply was begun, and the sink failed
+pub ends-in_reply : (told left left' : Option (List ℕ)) (last : ℕ) (took0 took took' : Option (List ℕ)) (g0 g limit : ℕ) (r r' : Reader) (bad : Bool) (next : Next) (state : State)
+    → Running told left last took0 took g0 g limit r bad state
+    → (Fits r left last → GivesLines r'.ended (to_come r left) (to_come r' left') (says next r'.line))
+    → (next ≡ End → ⊥)
+    → r'.number ≡ r.number + length (says next r'.line)
+    → WritesSome state (asked (line_text next r'.line)) r'.number took took'
+    → WritesPrefix told took0 took'
+ends-in_reply told left left' last took0 took took' g0 g limit r r' bad next state h lines more number w =
+    let one : says next r'.line ≡ line_text next r'.line ∷ [] = says-line next r'.line more in
+    let grown : KnownSofar r'.ended r'.number told (to_come r' left') (h.text ++ w.text) (bad || w.refused) w.after =
+    KnownSofar-then r.ended r'.ended r.number r'.number told (to_come r left) (to_come r' left') h.text w.text bad w.refused (line_text next r'.line) state w.after h.sofar (rw one at (lines h.fits)) (rw one at number) w.gives in
+    record {
+      text = h.text ++ w.front;
+      written = Appends-then took0 took took' h.text w.front h.written w.written;
+      begins = KnownSofar-cut told h.text w.front w.text w.prefix (KnownSofar-begins r'.ended r'.number told (to_come r' left') (h.text ++ w.text) (bad || w.refused) w.after grown);
+    }
+
+-- memory was wanting before a reply was begun
+pub ends-before_reply : (told left : Option (List ℕ)) (last : ℕ) (took0 took took' : Option (List ℕ)) (g0 g limit : ℕ) (r : Reader) (bad : Bool) (state : State)
+    → Running told left last took0 took g0 g limit r bad state → WritesNothing took took' → WritesPrefix told took0 took'
+ends-before_reply told left last took0 took took' g0 g limit r bad state h w = record {
+  text = h.text ++ [];
+  written = Appends-then took0 took took' h.text [] h.written w.written;
+  begins = rw (append-nil h.text) (KnownSofar-begins r.ended r.number told (to_come r left) h.text bad state h.sofar);
+}

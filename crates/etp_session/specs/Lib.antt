@@ -1,0 +1,9 @@
+pub mod Words
+pub mod Numbers
+pub mod Commands
+pub mod Replies
+pub mod Sessions
+pub mod Ends
+pub mod Given
+pub mod Opened
+pub mod Arguments

@@ -1,0 +1,42 @@
+-- The text of a session.
+use Rattle.std.specs.Prelude.{◌≡◌, ℕ, ◌+◌, List, [], ◌∷◌, ◌++◌, Bool, false, ◌||◌}
+use Rattle.etp_io.specs.Texts.{LineText, lines_of}
+use Rattle.etp_io.specs.Stream.{IsPrefix}
+use Rattle.etp_session.specs.Commands.{asked}
+use Rattle.etp_session.specs.Replies.{State, unopened, Reply, reply_text, is_refusal, Replies}
+
+-- a line and its number, counted from 1
+pub record Item : Type 0 where
+  pub number : ℕ
+  pub line : LineText
+
+-- the lines, numbered from n on
+abbrev pub items_from : ℕ → List LineText → List Item
+items_from n [] = []
+items_from n (line ∷ lines) = record { number = n; line = line } ∷ items_from (n + 1) lines
+
+abbrev pub items_of : List ℕ → List Item
+items_of bytes = items_from 1 (lines_of bytes)
+
+-- these lines, from this state on, give this text, with a refusal or without, and leave this state
+abbrev pub Session : State → List Item → List ℕ → Bool → State → Type 0
+Session first [] text refused last = (text ≡ []) × (refused ≡ false) × (last ≡ first)
+Session first (item ∷ items) text refused last = (reply : Reply) × (middle : State) × (rest : List ℕ) × (also : Bool)
+    × Replies first (asked item.line) reply middle × Session middle items rest also last
+    × (text ≡ reply_text item.number reply ++ rest) × (refused ≡ (is_refusal reply || also))
+
+-- the whole text of a session over these bytes, with a refusal line or without
+pub record IsSession (bytes text : List ℕ) (refused : Bool) : Type 0 where
+  pub last : State
+  pub session : Session unopened (items_of bytes) text refused last
+
+-- a prefix of the text of the first lines
+pub record Begins (bytes written : List ℕ) : Type 0 where
+  pub done : List Item
+  pub left : List Item
+  pub items : items_of bytes ≡ done ++ left
+  pub text : List ℕ
+  pub refused : Bool
+  pub last : State
+  pub session : Session unopened done text refused last
+  pub prefix : IsPrefix written text

@@ -1,0 +1,14 @@
+//! Sessions: lines of commands in, lines of answers out.
+#![tactic(auto)]
+
+mod command;
+mod reply;
+mod serving;
+mod top;
+
+pub use command::{Command, ListOrder};
+pub use serving::{Ending, session};
+pub use top::{one_text, run, run_in_memory};
+
+#[cfg(test)]
+mod tests;

@@ -1,0 +1,143 @@
+// Whole sessions over the forms in memory, however reads and writes are cut and wherever one fails.
+use crate::{run_in_memory, session};
+use etp_io::{MemorySink, MemorySource, SureShelf};
+use std::alloc::{AllocError, Global};
+
+const MOST: u64 = 134_217_728;
+
+// A session: its limit, its input, the greatest piece of a read and of a write, the read and the
+// write that fail (0: none), and what it must write and answer.
+#[derive(Clone, Copy)]
+struct Case<'a> {
+    limit: u64,
+    input: &'a str,
+    read: usize,
+    write: usize,
+    failing_read: u32,
+    failing_write: u32,
+    output: &'a str,
+    status: u8,
+}
+
+fn plain<'a>(input: &'a str, output: &'a str, status: u8) -> Case<'a> {
+    Case {
+        limit: MOST,
+        input,
+        read: 4096,
+        write: 4096,
+        failing_read: 0,
+        failing_write: 0,
+        output,
+        status,
+    }
+}
+
+fn is_right(alloc: Global, case: &Case<'_>) -> Result<bool, AllocError> {
+    let bytes = Vec::from_slice(alloc, case.input.as_bytes())?;
+    let failing_reads = Vec::from_slice(alloc, &[case.failing_read])?;
+    let failing_writes = Vec::from_slice(alloc, &[case.failing_write])?;
+    let mut source = MemorySource::of(bytes, case.read.max(1), failing_reads);
+    let mut sink = MemorySink::of(alloc, 1000, case.write.max(1), failing_writes)?;
+    let mut shelf = SureShelf::of(alloc);
+    let limit = case.limit.min(MOST);
+    let status = session(alloc, limit, &mut source, &mut sink, &mut shelf);
+    Ok(status == case.status && sink.taken() == case.output.as_bytes())
+}
+
+#[test]
+fn sessions_write_their_text(rt: HostRuntime) {
+    let cases = [
+        plain("", "", 0),
+        plain("# none\n\n", "", 0),
+        plain("law 4512\n", "4512 x ◇ (y ◇ z) = (x ◇ y) ◇ z\n", 0),
+        plain(
+            "law 99\r\nlaw 677",
+            "99 x = x ◇ ((x ◇ x) ◇ x)\n677 x = y ◇ (x ◇ ((y ◇ x) ◇ y))\n",
+            0,
+        ),
+        plain(
+            "law 1\nlaw 4694\nlaw 0\nlaw 4695\n",
+            "1 x = x\n4694 (x ◇ y) ◇ z = (w ◇ u) ◇ v\nrefused 3: unknown law 0\nrefused 4: unknown law 4695\n",
+            1,
+        ),
+        plain(
+            "ask 1 1\nlwa 1\n",
+            "refused 1: not built\nrefused 2: bad line\n",
+            1,
+        ),
+        plain(
+            "\norder 5\nlaw 62577\norder 4\n",
+            "refused 3: unknown law 62577\nrefused 4: bad line\n",
+            1,
+        ),
+        plain("law 2\norder 5\n", "2 x = y\nrefused 2: bad line\n", 1),
+    ];
+    for case in &cases {
+        for piece in [1, 7, 4096] {
+            let cut = Case {
+                read: piece,
+                write: piece,
+                ..*case
+            };
+            assert!(rt;
+                is_right(rt.alloc(), &cut).expect(&rt, "memory"),
+                "{}",
+                case.input
+            );
+        }
+    }
+}
+
+#[test]
+fn sessions_that_end_early_write_what_was_whole(rt: HostRuntime) {
+    let two = "law 1\nlaw 2\n";
+    let cases = [
+        Case {
+            read: 6,
+            failing_read: 2,
+            ..plain(two, "1 x = x\n", 3)
+        },
+        Case {
+            read: 9,
+            failing_read: 2,
+            ..plain(two, "1 x = x\n", 3)
+        },
+        Case {
+            limit: 8,
+            read: 3,
+            ..plain(two, "1 x = x\n", 6)
+        },
+        Case {
+            limit: 8,
+            read: 12,
+            ..plain(two, "", 6)
+        },
+        Case {
+            failing_write: 1,
+            ..plain("law 1\n", "", 4)
+        },
+        Case {
+            write: 1,
+            failing_write: 3,
+            ..plain("law 1\n", "1 ", 4)
+        },
+        Case {
+            limit: 5,
+            ..plain("law 1\n", "", 6)
+        },
+    ];
+    for case in &cases {
+        assert!(rt;
+            is_right(rt.alloc(), case).expect(&rt, "memory"),
+            "{}",
+            case.input
+        );
+    }
+}
+
+#[test]
+fn a_session_in_memory_ends_well(rt: HostRuntime) {
+    let bytes = Vec::from_slice(rt.alloc(), b"law 1\n").expect(&rt, "memory");
+    let mut shelf = SureShelf::of(rt.alloc());
+    assert!(rt; run_in_memory(rt.alloc(), &[], bytes, &mut shelf) == 0);
+}

@@ -1,0 +1,84 @@
+ghost use Rattle.std.specs.Prelude.{◌≡◌, ◌+◌, ◌-◌, ◌≤◌, ◌↔◌, ◌⊎◌, ℕ, List, Bool, false, true, map, vec_len, Some, IfSome, length};
+ghost use Rattle.std.specs.String.{string_bytes};
+ghost use Rattle.etp_io.specs.Causes.{Rose};
+ghost use Rattle.etp_session.specs.Arguments.{asks_session};
+ghost use Rattle.etp_session.specs.Sessions.{IsSession};
+ghost use Rattle.etp_session.specs.Ends.{EndsWell, WritesPrefix, WritesWholeLines, Takes, TakesWithin, StopsAtFault};
+
+use crate::command::is;
+use crate::serving::session;
+use etp_io::{Shelf, Sink, Source, SureShelf, SureSink, SureSource};
+use std::alloc::Global;
+
+/// The most bytes of a source.
+const LIMIT: u64 = 134_217_728;
+
+fn asks_session(words: &[String]) -> bool
+    ensures { result ≡ asks_session (map string_bytes words.now) }
+{
+    match words {
+        [] => true,
+        [word] => is(word.as_bytes(), "session"),
+        _ => false,
+    }
+}
+
+/// Does what the words of the command line ask, and answers the status.
+///
+/// The word `session`, or no word, asks for a session with a limit of 134217728 bytes. With any
+/// other words the status is 2, and nothing is read or written.
+pub fn run<S: Source, K: Sink, H: Shelf>(
+    alloc: Global,
+    words: &[String],
+    source: &mut S,
+    sink: &mut K,
+    shelf: &mut H,
+) -> u8
+    ensures words { result ≡ 2 ↔ (asks_session (map string_bytes words.now) ≡ false) }
+    ensures untouched { result ≡ 2 → (source.new ≡ source.old) × (sink.new ≡ sink.old) × (shelf.new ≡ shelf.old) }
+
+    // At 0 and 1 the source was read to its end and the whole text was written.
+    ensures well { result ≡ 0 → EndsWell (S.left source.old) (S.left source.new) (K.took sink.old) (K.took sink.new) (S.last source.new) false }
+    ensures refused { result ≡ 1 → EndsWell (S.left source.old) (S.left source.new) (K.took sink.old) (K.took sink.new) (S.last source.new) true }
+
+    // At 3 a read failed, and the lines that stand whole in the bytes taken were answered.
+    ensures read { result ≡ 3 → Rose (S.faults source.old) (S.faults source.new) }
+    ensures read_end { result ≡ 3 → StopsAtFault (S.left source.old) (S.left source.new) (K.took sink.old) (K.took sink.new) (S.given source.old) (S.given source.new) 134217728 }
+
+    // At 4 a write failed; at 4 and 5 a prefix of the text was written.
+    ensures write { result ≡ 4 → Rose (K.faults sink.old) (K.faults sink.new) }
+    ensures write_end { result ≡ 4 → WritesPrefix (S.left source.old) (K.took sink.old) (K.took sink.new) }
+    ensures memory_end { result ≡ 5 → WritesPrefix (S.left source.old) (K.took sink.old) (K.took sink.new) }
+
+    // At 6 one byte more than the limit was taken, and the lines that stand whole in the bytes before the last read were answered.
+    ensures too_much { result ≡ 6 → Takes (S.left source.old) (S.left source.new) (S.given source.old) (S.given source.new) 134217729 }
+    ensures too_much_end { result ≡ 6 → WritesWholeLines (S.left source.old) (K.took sink.old) (K.took sink.new) (134217729 - S.last source.new) }
+    ensures within { (result ≡ 6 → ⊥) → (result ≡ 2 → ⊥) → TakesWithin (S.left source.old) (S.left source.new) (S.given source.old) (S.given source.new) 134217728 }
+
+    ensures statuses { result ≤ 6 }
+    ensures shelf { shelf.new ≡ shelf.old }
+{
+    if asks_session(words) {
+        session(alloc, LIMIT, source, sink, shelf)
+    } else {
+        2
+    }
+}
+
+/// A session over bytes has one text: two texts that it may have are equal, and both have a refusal
+/// line or neither has.
+pub fn one_text()
+    ensures { (bytes text other : List ℕ) (refused also : Bool) → IsSession bytes text refused → IsSession bytes other also → (text ≡ other) × (refused ≡ also) }
+{}
+
+/// Does what the words ask over forms in memory that never fail: a source of these bytes, and a
+/// sink that keeps nothing. The status is 0, 1 or 5.
+pub fn run_in_memory(alloc: Global, words: &[String], bytes: Vec<u8>, shelf: &mut SureShelf) -> u8
+    requires words { asks_session (map string_bytes words.now) ≡ true }
+    requires within { vec_len bytes ≤ 134217728 }
+    ensures { (result ≡ 0) ⊎ (result ≡ 1) ⊎ (result ≡ 5) }
+{
+    let mut source = SureSource::of(bytes);
+    let mut sink = SureSink::of();
+    run(alloc, words, &mut source, &mut sink, shelf)
+}

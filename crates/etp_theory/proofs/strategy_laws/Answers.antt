@@ -1,0 +1,8 @@
+use Rattle.etp_theory.proofs.Matching.{next_some, next_none}
+use Rattle.etp_theory.proofs.NormalForms.{normal_steps, normal_end}
+use Rattle.etp_theory.proofs.Convergent.{form_is}
+use Rattle.etp_theory.proofs.Firing.{fired_next, fired_at}
+use Rattle.etp_theory.proofs.strategy_laws.Goals as goal
+
+pub returns : goal.returns
+returns c = record { taken = next_some; none_left = λ rules s t h d. next_none rules h d; reached = normal_steps; ended = normal_end; form = form_is; fired_next = fired_next; fired_at = fired_at }

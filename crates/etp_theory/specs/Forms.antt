@@ -1,0 +1,19 @@
+-- Normal forms that the strategy reaches within the limits.
+use Rattle.std.specs.Prelude.{◌≡◌, ℕ, ◌≤◌, List, None}
+use Rattle.etp_theory.specs.Trees.{Tree, leaves, Equation}
+use Rattle.etp_theory.specs.Strategy.{next, walk}
+use Rattle.etp_theory.specs.Limits.{step_limit, leaf_limit}
+
+-- the walk of `s` ends at `u` within the limits
+pub record IsFormOf (rules : List Equation) (s u : Tree) : Type 0 where
+  pub steps : ℕ
+  pub few : steps ≤ step_limit
+  pub reached : walk rules steps s ≡ u
+  pub ended : next rules u ≡ None
+  pub narrow : (k : ℕ) → leaves (walk rules k s) ≤ leaf_limit
+
+-- both walks end at one term within the limits
+pub record HaveOneForm (rules : List Equation) (s t : Tree) : Type 0 where
+  pub form : Tree
+  pub of_left : IsFormOf rules s form
+  pub of_right : IsFormOf rules t form
