@@ -8,7 +8,7 @@ use Rattle.std.specs.Cmp.Lexicographic.{slice_cmp}
 use Rattle.std.specs.Ordering.{nat_cmp, is_gt}
 use Rattle.std.specs.declared.cmp.Ordering.{Ordering}
 use Rattle.std.specs.declared.cmp.Ordering.TheVariants.{Less, Equal, Greater}
-use Rattle.etp_theory.specs.Trees.{Tree, Shape, leaf, fork, Equation, shape_of, shape_leaves, shape_ops, ops, word_of, law_word, law_ops, exchanged}
+use Rattle.etp_theory.specs.Trees.{Shape, leaf, fork, shape_of, shape_leaves, shape_ops, ops, word_of, law_word, law_ops, exchanged}
 use Rattle.etp_theory.specs.Orders.{shape_cmp}
 use Rattle.etp_laws.specs.Numbering.{numbered}
 use Rattle.etp_laws.specs.Enumeration.{filled, words, pairs_from, shapes, same_tree, is_first_reading, is_listed, is_kept, law_at, laws_at, laws_of, laws_upto}

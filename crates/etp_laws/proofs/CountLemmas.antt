@@ -1,16 +1,16 @@
 -- The program's counts, and the rank of a word.
-use Rattle.std.proofs.Common.{◌≡◌, ℕ, ◌+◌, ◌-◌, ◌*◌, ◌/◌, ◌%◌, ◌<◌, ◌≤◌, ◌⊎◌, inl, inr, ◌++◌, List, [], ◌∷◌, length, drop, get_or, take, min, slice_index, refl, sym, ◌∙◌, ap, subst, suc, zero, arith, add-one, drop-cons, Bool, true, false, ◌&&◌, ◌==◌, not, ltb, All, Contains}
+use Rattle.std.proofs.Common.{◌≡◌, ℕ, ◌+◌, ◌-◌, ◌*◌, ◌<◌, ◌≤◌, ◌⊎◌, inl, inr, length, slice_index, refl, sym, ◌∙◌, ap, suc, zero, arith, Bool, true, ◌&&◌, ◌==◌, not, ltb}
 use Rattle.std.proofs.lemmas.Bool.{cases_lt, and_parts, eqb-true, ltb-true}
 use Rattle.etp_theory.specs.Trees.{Shape, fork, shape_ops}
-use Rattle.etp_laws.specs.declared.counts.TheConstants.{WORDS, SHAPES, LAWS_BELOW}
+use Rattle.etp_laws.specs.declared.counts.TheConstants.{WORDS}
 use Rattle.etp_laws.specs.Numbering.{Grows}
-use Rattle.etp_laws.specs.Enumeration.{used_after, words, shapes}
+use Rattle.etp_laws.specs.Enumeration.{words, shapes}
 use Rattle.etp_laws.specs.Places.{words_count, shape_rank, pairs_below}
 use Rattle.etp_laws.proofs.ShapePlaces.{shape_rank-below}
-use Rattle.etp_laws.specs.Words.{AreTheWords, CountsWords}
+use Rattle.etp_laws.specs.Words.{CountsWords}
 use Rattle.etp_laws.proofs.Rising.{Contains-from_in, All-from_in}
-use Rattle.etp_laws.proofs.WordLemmas.{In-words, words_are, Rising-words, used_after-old, used_after-new}
-use Rattle.etp_laws.proofs.Counting.{length-words, words-rank}
+use Rattle.etp_laws.proofs.WordLemmas.{In-words, words_are, Rising-words}
+use Rattle.etp_laws.proofs.Counting.{length-words}
 
 all_below : (ℕ → Bool) → ℕ → Bool
 all_below p zero = true

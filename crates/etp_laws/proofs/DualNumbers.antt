@@ -1,9 +1,8 @@
 -- The numbers of duals.
-use Rattle.std.proofs.Common.{◌≡◌, ◌≢◌, ℕ, ◌+◌, ◌-◌, ◌<◌, ◌≤◌, ◌⊎◌, inl, inr, List, [], ◌∷◌, length, map, get_or, slice_index, Contains, Option, Some, None, refl, sym, ◌∙◌, ap, subst, suc, zero, arith, All}
+use Rattle.std.proofs.Common.{◌≡◌, ◌≢◌, ℕ, ◌-◌, ◌<◌, ◌≤◌, ◌⊎◌, inl, inr, List, [], ◌∷◌, length, get_or, slice_index, Option, Some, None, sym, ◌∙◌, ap, subst, suc, zero, arith}
 use Rattle.std.proofs.lemmas.Bool.{cases_order}
 use Rattle.std.proofs.lemmas.Cmp.{tied_itself}
 use Rattle.std.proofs.lemmas.List.{length-map, get_or-map}
-use Rattle.std.proofs.lemmas.List.Elements.{All-contains}
 use Rattle.std.proofs.lemmas.Option.{slice_get-get_or, slice_get_within, slice_get_cases, slice_get_past, get_or_from_slice_get}
 use Rattle.std.specs.Option.{MatchOption}
 use Rattle.std.specs.List.{slice_get}
@@ -11,7 +10,7 @@ use Rattle.std.specs.List.Sorted.{IsStrictlySortedBy}
 use Rattle.std.specs.Cmp.{IsTotalOrder}
 use Rattle.std.specs.declared.cmp.Ordering.{Ordering}
 use Rattle.std.specs.declared.cmp.Ordering.TheVariants.{Less, Equal}
-use Rattle.etp_theory.specs.Trees.{Tree, var, op, Equation, law_ops, law_dual, dual}
+use Rattle.etp_theory.specs.Trees.{Equation, law_ops, law_dual, dual}
 use Rattle.etp_theory.specs.Orders.{law_cmp}
 use Rattle.etp_theory.specs.Reach.{dual_number}
 use Rattle.etp_theory.specs.Sameness.{Same}

@@ -1,5 +1,5 @@
 -- The number of a law by counting.
-use Rattle.std.proofs.Common.{◌≡◌, ◌≢◌, ℕ, ◌+◌, ◌-◌, ◌<◌, ◌≤◌, ◌⊎◌, inl, inr, ◌++◌, List, [], ◌∷◌, length, length-append, flat_map, Some, refl, sym, ◌∙◌, ap, subst, suc, arith, false, cond}
+use Rattle.std.proofs.Common.{◌≡◌, ◌≢◌, ℕ, ◌+◌, ◌-◌, ◌<◌, ◌≤◌, ◌⊎◌, inl, inr, ◌++◌, [], ◌∷◌, length, length-append, flat_map, Some, sym, ◌∙◌, ap, subst, arith, false, cond}
 use Rattle.std.proofs.lemmas.Cmp.{tied_itself, nat_list_cmp_total}
 use Rattle.std.proofs.lemmas.Bool.Decides.{nat_tests}
 use Rattle.std.specs.List.{range_with_len, slice_get}
@@ -7,20 +7,20 @@ use Rattle.std.specs.Cmp.Lexicographic.{slice_cmp}
 use Rattle.std.specs.Ordering.{nat_cmp, ordering_then, is_gt, ordering_reverse}
 use Rattle.std.specs.declared.cmp.Ordering.{Ordering}
 use Rattle.std.specs.declared.cmp.Ordering.TheVariants.{Less, Equal, Greater}
-use Rattle.etp_theory.specs.Trees.{Tree, var, op, Shape, leaf, Equation, shape_of, shape_ops, shape_leaves, law_word, law_ops, exchanged}
+use Rattle.etp_theory.specs.Trees.{var, op, Shape, leaf, Equation, shape_of, shape_ops, shape_leaves, law_word, law_ops, exchanged}
 use Rattle.etp_theory.specs.Orders.{shape_cmp}
 use Rattle.etp_theory.specs.Sameness.{Same}
 use Rattle.etp_laws.specs.Listing.{Listed, trivial}
-use Rattle.etp_laws.specs.LawLists.{entry_at, IsNumberOf, HasNumber}
+use Rattle.etp_laws.specs.LawLists.{IsNumberOf, HasNumber}
 use Rattle.etp_laws.specs.Numbering.{numbered}
 use Rattle.etp_laws.specs.Enumeration.{pairs_from, shapes, is_listed, law_at, laws_at, laws_of, laws_upto}
-use Rattle.etp_laws.specs.Places.{shape_rank, block_start, place_in_block, laws_below, place_at, lesser, place_by, number_of}
+use Rattle.etp_laws.specs.Places.{shape_rank, place_in_block, place_at, lesser, place_by, number_of}
 use Rattle.etp_term.proofs.Shapes.{shape_total, shape_cmp-equal, shape_ops-shape_of}
 use Rattle.etp_laws.proofs.Numbers.{moved, moved-injective, numbered-map}
 use Rattle.etp_laws.proofs.Canonical.{cases_Ordering, canonical_from_listed, listed_from_canonical}
 use Rattle.etp_laws.proofs.WordLemmas.{length-word_of}
 use Rattle.etp_laws.proofs.TheList.{law_at-shapes_of, test_from_canonical}
-use Rattle.etp_laws.proofs.Readings.{Reading, reading_of, left_shape, right_shape, canonical_reading, law_ops-reading}
+use Rattle.etp_laws.proofs.Readings.{reading_of, left_shape, right_shape, canonical_reading, law_ops-reading}
 use Rattle.etp_laws.proofs.Trivial.{Listed-trivial, lone_same}
 use Rattle.etp_laws.proofs.Variables.{growing}
 use Rattle.etp_laws.proofs.Entries.{entry_after}

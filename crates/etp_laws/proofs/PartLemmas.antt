@@ -1,10 +1,9 @@
 -- The place of a law from the parts of its two sides.
-use Rattle.std.proofs.Common.{◌≡◌, ℕ, ◌++◌, List, refl, sym, ◌∙◌, ap, Bool, true, false, cond}
-use Rattle.std.specs.Cmp.Lexicographic.{slice_cmp}
-use Rattle.std.specs.Ordering.{nat_cmp, ordering_then, is_gt}
+use Rattle.std.proofs.Common.{◌≡◌, ℕ, ◌++◌, List, sym, ◌∙◌, ap}
+use Rattle.std.specs.Ordering.{nat_cmp, ordering_then}
 use Rattle.std.specs.declared.cmp.Ordering.{Ordering}
 use Rattle.std.specs.declared.cmp.Ordering.TheVariants.{Less, Equal, Greater}
-use Rattle.etp_theory.specs.Trees.{Tree, Equation, shape_of, shape_ops, word_of, law_word, exchanged}
+use Rattle.etp_theory.specs.Trees.{Tree, Equation, shape_of, shape_ops, word_of}
 use Rattle.etp_theory.specs.Orders.{shape_cmp}
 use Rattle.etp_laws.specs.Numbering.{numbered}
 use Rattle.etp_laws.specs.Places.{shape_rank, place_from, place_by, lesser}

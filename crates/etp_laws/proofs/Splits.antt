@@ -1,5 +1,5 @@
 -- Where an element stands in a list: what stands before it.
-use Rattle.std.proofs.Common.{◌≡◌, ℕ, ◌+◌, ◌-◌, ◌<◌, ◌≤◌, ◌⊎◌, inl, inr, ◌++◌, List, [], ◌∷◌, length, length-append, map, filter, flat_map, take, get_or, Some, refl, sym, ◌∙◌, ap, subst, suc, zero, arith, Bool, true, false, cond, ◌&&◌, append_assoc}
+use Rattle.std.proofs.Common.{◌≡◌, ℕ, ◌+◌, ◌<◌, inl, inr, ◌++◌, List, [], ◌∷◌, length, length-append, map, filter, flat_map, take, get_or, Some, refl, sym, ◌∙◌, ap, subst, suc, zero, arith, Bool, true, append_assoc}
 use Rattle.std.proofs.lemmas.Bool.{cond-true}
 use Rattle.std.proofs.lemmas.List.{map-append}
 use Rattle.std.proofs.lemmas.List.Elements.{filter-append}

@@ -1,10 +1,8 @@
-use Rattle.std.proofs.Common.{◌≡◌, ◌≢◌, ℕ, ◌<◌, ◌⊎◌, inl, inr, refl, sym, ◌∙◌, ap, arith}
-use Rattle.std.proofs.lemmas.Bool.{cases_order}
+use Rattle.std.proofs.Common.{◌≡◌, ◌≢◌, ℕ, ◌⊎◌, inl, inr, refl, sym, ◌∙◌, ap, arith}
 use Rattle.std.proofs.lemmas.Bool.Decides.{nat_tests}
 use Rattle.etp_theory.specs.Sameness.{Same}
 use Rattle.etp_theory.specs.Trees.{Tree, var, op, Equation, renamed, exchanged}
 use Rattle.etp_laws.specs.Listing.{Listed, trivial}
-use Rattle.etp_laws.specs.LawLists.{HasNumber, IsTrivial}
 use Rattle.etp_laws.proofs.Numbers.{moved, moved-injective}
 use Rattle.etp_laws.proofs.Canonical.{listed_from_canonical}
 use Rattle.etp_laws.proofs.TheList.{canonical_from_test}

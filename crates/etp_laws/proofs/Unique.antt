@@ -1,4 +1,4 @@
-use Rattle.std.proofs.Common.{inl, inr, ◌≡◌, ℕ, ◌+◌, ◌<◌, ◌≤◌, ◌++◌, List, [], ◌∷◌, length, get_or, Contains, sym, ◌∙◌, ap, suc, zero, arith}
+use Rattle.std.proofs.Common.{inl, inr, ◌≡◌, ℕ, ◌+◌, ◌<◌, ◌≤◌, ◌++◌, List, [], ◌∷◌, length, get_or, Contains, sym, suc, zero, arith}
 use Rattle.std.proofs.lemmas.List.Elements.{All-contains}
 use Rattle.etp_theory.specs.Orders.{law_cmp}
 use Rattle.etp_theory.specs.Trees.{Equation, law_ops}

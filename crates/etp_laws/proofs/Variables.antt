@@ -1,7 +1,7 @@
 -- The variables of a listed law.
-use Rattle.std.proofs.Common.{◌≡◌, ℕ, ◌+◌, ◌<◌, ◌≤◌, ◌⊎◌, ◌↔◌, inl, inr, ◌++◌, List, [], ◌∷◌, length, Contains, refl, sym, ◌∙◌, ap, subst, suc, max, arith}
+use Rattle.std.proofs.Common.{◌≡◌, ℕ, ◌+◌, ◌<◌, ◌≤◌, ◌⊎◌, inl, inr, ◌++◌, List, [], ◌∷◌, length, sym, ◌∙◌, subst, suc, max, arith}
 use Rattle.std.proofs.lemmas.Bool.{cases_order}
-use Rattle.etp_theory.specs.Trees.{Tree, var, op, Equation, shape_of, shape_ops, shape_leaves, ops, word_of, law_word, law_ops, bound}
+use Rattle.etp_theory.specs.Trees.{Tree, var, op, Equation, shape_of, shape_leaves, word_of, law_word, law_ops, bound}
 use Rattle.etp_laws.specs.Numbering.{Grows}
 use Rattle.etp_laws.specs.Listing.{Listed}
 use Rattle.etp_laws.specs.LawLists.{HasVariables}

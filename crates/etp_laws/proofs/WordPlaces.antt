@@ -1,15 +1,15 @@
 -- The place of a word among those of its length, and of a law among the listed ones of its shapes.
-use Rattle.std.proofs.Common.{◌≡◌, ℕ, ◌+◌, ◌*◌, ◌<◌, ◌≤◌, ◌⊎◌, inl, inr, ◌++◌, List, [], ◌∷◌, length, length-append, map, filter, flat_map, take, refl, sym, ◌∙◌, ap, subst, suc, zero, arith, Bool, true, false}
+use Rattle.std.proofs.Common.{◌≡◌, ℕ, ◌+◌, ◌<◌, ◌≤◌, ◌⊎◌, inl, inr, ◌++◌, List, [], ◌∷◌, length, length-append, map, filter, flat_map, take, refl, sym, ◌∙◌, ap, subst, arith, true}
 use Rattle.std.proofs.lemmas.Bool.{true≢false}
 use Rattle.std.proofs.lemmas.List.{length-map}
 use Rattle.std.specs.List.{range_with_len}
 use Rattle.std.specs.declared.cmp.Ordering.{Ordering}
 use Rattle.std.specs.declared.cmp.Ordering.TheVariants.{Less, Equal, Greater}
-use Rattle.etp_theory.specs.Trees.{Shape, Equation, shape_of, shape_leaves}
+use Rattle.etp_theory.specs.Trees.{Shape, Equation, shape_leaves}
 use Rattle.etp_theory.specs.Orders.{shape_cmp}
 use Rattle.etp_laws.specs.Numbering.{Grows}
 use Rattle.etp_laws.specs.Enumeration.{used_after, words, is_first_reading, is_listed, is_kept, law_at, laws_at}
-use Rattle.etp_laws.specs.Places.{words_count, rank, place_in_block}
+use Rattle.etp_laws.specs.Places.{rank, place_in_block}
 use Rattle.etp_term.proofs.Shapes.{shape_cmp-equal}
 use Rattle.etp_laws.proofs.Canonical.{cases_Ordering}
 use Rattle.etp_laws.proofs.WordLemmas.{used_after-old, used_after-new}

@@ -1,14 +1,13 @@
 -- The rank of a word letter by letter, and the word of a rank.
-use Rattle.std.proofs.Common.{◌≡◌, ℕ, ◌+◌, ◌-◌, ◌*◌, ◌/◌, ◌<◌, ◌≤◌, ◌⊎◌, inl, inr, ◌++◌, List, [], ◌∷◌, length, length-append, drop, get_or, take, filter, min, refl, sym, ◌∙◌, ap, subst, suc, zero, arith, add-one, drop-cons, append_assoc, cond}
+use Rattle.std.proofs.Common.{◌≡◌, ℕ, ◌+◌, ◌-◌, ◌*◌, ◌/◌, ◌<◌, ◌≤◌, ◌⊎◌, inl, inr, ◌++◌, List, [], ◌∷◌, length, get_or, min, refl, sym, ◌∙◌, ap, subst, suc, zero, arith, append_assoc}
 use Rattle.std.proofs.lemmas.Bool.{cases_lt}
-use Rattle.std.proofs.lemmas.List.{length-drop, append-nil}
-use Rattle.std.proofs.lemmas.List.Filters.{length-filter_more}
+use Rattle.std.proofs.lemmas.List.{append-nil}
 use Rattle.std.proofs.Math.Nat.{div-mul-le_self, lt-div-mul-add}
 use Rattle.etp_laws.specs.Numbering.{Grows}
-use Rattle.etp_laws.specs.Enumeration.{used_after, words, is_kept}
+use Rattle.etp_laws.specs.Enumeration.{used_after, words}
 use Rattle.etp_laws.specs.Places.{words_count, rank, unrank}
 use Rattle.etp_laws.proofs.WordLemmas.{used_after-old, used_after-new}
-use Rattle.etp_laws.proofs.Counting.{length-words, words-rank}
+use Rattle.etp_laws.proofs.Counting.{words-rank}
 use Rattle.etp_laws.proofs.CountLemmas.{words_count-some, small_words}
 
 times_le : (a b c : ℕ) → a ≤ b → a * c ≤ b * c

@@ -5,7 +5,7 @@ use Rattle.std.specs.Cmp.Lexicographic.{slice_cmp}
 use Rattle.std.specs.Ordering.{nat_cmp, ordering_then, is_gt}
 use Rattle.std.specs.declared.cmp.Ordering.{Ordering}
 use Rattle.std.specs.declared.cmp.Ordering.TheVariants.{Less, Equal, Greater}
-use Rattle.etp_theory.specs.Trees.{Tree, dual, Shape, leaf, fork, Equation, shape_of, shape_ops, shape_leaves, law_word, law_ops, law_dual, exchanged}
+use Rattle.etp_theory.specs.Trees.{Tree, dual, Shape, leaf, fork, Equation, shape_of, shape_ops, law_word, law_dual, exchanged}
 use Rattle.etp_theory.specs.Orders.{shape_cmp}
 use Rattle.etp_laws.specs.Numbering.{numbered}
 use Rattle.etp_laws.specs.Enumeration.{used_after, words, shapes, is_kept}

@@ -1,4 +1,4 @@
-use Rattle.std.proofs.Common.{◌≡◌, ◌≤◌, ◌+◌, ◌-◌, ◌*◌, length, sym, ◌∙◌, ap, arith}
+use Rattle.std.proofs.Common.{◌+◌, ◌*◌, sym, ◌∙◌, arith}
 use Rattle.etp_laws.proofs.CountLemmas.{products, pairs_below-more}
 use Rattle.etp_laws.proofs.counts.pairs_below.Goals as goal
 

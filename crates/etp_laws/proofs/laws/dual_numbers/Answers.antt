@@ -1,4 +1,4 @@
-use Rattle.std.proofs.Common.{◌≡◌, ◌++◌, ◌∷◌, [], sym, ◌∙◌, ap}
+use Rattle.std.proofs.Common.{◌++◌, ◌∷◌, [], sym, ◌∙◌}
 use Rattle.etp_laws.proofs.LawItems.{dual_numbers-none, dual_numbers-more, small_law}
 use Rattle.etp_laws.proofs.laws.dual_numbers.Goals as goal
 

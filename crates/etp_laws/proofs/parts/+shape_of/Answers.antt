@@ -1,4 +1,4 @@
-use Rattle.std.proofs.Common.{◌≡◌, ◌≤◌, ◌+◌, sym, ◌∙◌, ap, arith}
+use Rattle.std.proofs.Common.{◌≡◌, ◌≤◌, ◌+◌, ◌∙◌, ap, arith}
 use Rattle.etp_theory.specs.Trees.{ops, op}
 use Rattle.etp_term.specs.Terms.{tree_of}
 use Rattle.etp_term.proofs.Opened.{tree_of-op}

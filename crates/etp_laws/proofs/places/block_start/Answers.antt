@@ -1,4 +1,4 @@
-use Rattle.std.proofs.Common.{◌≤◌, ◌+◌, arith}
+use Rattle.std.proofs.Common.{◌+◌, arith}
 use Rattle.etp_laws.proofs.CountLemmas.{words_small, block_small_less, block_small_equal}
 use Rattle.etp_laws.proofs.places.block_start.Goals as goal
 

@@ -1,4 +1,4 @@
-use Rattle.std.proofs.Common.{◌≤◌, ◌<◌, ◌+◌, arith}
+use Rattle.std.proofs.Common.{◌+◌, arith}
 use Rattle.etp_laws.proofs.WordRanks.{rank-small, rank-within}
 use Rattle.etp_laws.proofs.places.place_in_block.Goals as goal
 

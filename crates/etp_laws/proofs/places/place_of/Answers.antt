@@ -1,9 +1,8 @@
-use Rattle.std.proofs.Common.{◌≡◌, ◌++◌, ℕ, List, ◌∙◌}
-use Rattle.etp_theory.specs.Trees.{Tree}
+use Rattle.std.proofs.Common.{◌++◌, ◌∙◌}
 use Rattle.etp_term.specs.Terms.{tree_of}
 use Rattle.etp_laws.specs.Numbering.{numbered}
 use Rattle.etp_laws.specs.Places.{seen}
-use Rattle.etp_laws.proofs.PartLemmas.{PartsOf, less_place, greater_place, equal_place}
+use Rattle.etp_laws.proofs.PartLemmas.{less_place, greater_place, equal_place}
 use Rattle.etp_laws.proofs.places.place_of.Goals as goal
 
 pub returns-in-Less-clause-value : goal.returns-in-Less-clause-value

@@ -1,4 +1,4 @@
-use Rattle.std.proofs.Common.{◌≡◌, ◌≤◌, ◌+◌, ◌-◌, ◌*◌, ◌++◌, ◌∷◌, [], ℕ, length, length-append, ◌∙◌, ap, sym, arith}
+use Rattle.std.proofs.Common.{◌+◌, ◌-◌, ◌*◌, ◌++◌, ◌∷◌, [], length, length-append, ◌∙◌, ap, arith}
 use Rattle.etp_laws.specs.Places.{unrank}
 use Rattle.etp_laws.proofs.WordRanks.{next_letter, last_letter}
 use Rattle.etp_laws.proofs.places.word_at.Goals as goal

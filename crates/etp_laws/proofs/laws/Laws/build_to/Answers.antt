@@ -1,4 +1,4 @@
-use Rattle.std.proofs.Common.{◌≤◌, map, sym, subst, ◌∙◌, ap, arith}
+use Rattle.std.proofs.Common.{map, sym, subst, ◌∙◌, ap, arith}
 use Rattle.etp_term.specs.Laws.{equation_of}
 use Rattle.etp_laws.specs.Listing.{IsTheList}
 use Rattle.etp_laws.proofs.LawItems.{small_laws}

@@ -1,8 +1,7 @@
-use Rattle.std.proofs.Common.{◌≡◌, ◌<◌, ◌-◌, Option, Some, None, ℕ, sym, ◌∙◌, ap, subst, arith}
-use Rattle.std.specs.Option.{MatchOption}
+use Rattle.std.proofs.Common.{◌-◌, Some, None, sym, ◌∙◌, ap, arith}
 use Rattle.std.specs.List.{slice_get}
 use Rattle.std.proofs.lemmas.Option.{get_or_from_slice_get}
-use Rattle.etp_laws.specs.LawLists.{LawList, entry_at, IsDualOf}
+use Rattle.etp_laws.specs.LawLists.{LawList}
 use Rattle.etp_laws.proofs.DualNumbers.{duals_of, dual_answer}
 use Rattle.etp_laws.proofs.laws.Laws.dual.Goals as goal
 

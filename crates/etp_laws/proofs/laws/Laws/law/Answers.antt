@@ -1,8 +1,7 @@
-use Rattle.std.proofs.Common.{◌≡◌, ◌-◌, ◌<◌, Option, sym, ◌∙◌, ap, arith}
+use Rattle.std.proofs.Common.{◌-◌, sym, ◌∙◌, ap, arith}
 use Rattle.std.proofs.lemmas.Option.{slice_get-map}
 use Rattle.std.specs.Option.{option_map}
 use Rattle.etp_term.specs.Laws.{equation_of}
-use Rattle.etp_term.specs.declared.law.Law.{Law}
 use Rattle.etp_laws.specs.LawLists.{LawList, entry_at}
 use Rattle.etp_laws.proofs.Entries.{the_list, entry_after}
 use Rattle.etp_laws.proofs.laws.Laws.law.Goals as goal

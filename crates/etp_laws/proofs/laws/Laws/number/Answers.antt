@@ -1,6 +1,5 @@
-use Rattle.std.proofs.Common.{◌≡◌, ◌≤◌, ◌+◌, min, arith, ap}
-use Rattle.etp_theory.specs.Trees.{ops, law_ops}
-use Rattle.etp_term.specs.Terms.{tree_of}
+use Rattle.std.proofs.Common.{◌≡◌, ◌≤◌, arith, ap}
+use Rattle.etp_theory.specs.Trees.{law_ops}
 use Rattle.etp_term.specs.Laws.{equation_of}
 use Rattle.etp_laws.specs.LawLists.{LawList}
 use Rattle.etp_laws.proofs.DualNumbers.{number_answer}
