@@ -8,18 +8,18 @@ use Rattle.std.specs.Cmp.Lexicographic.{slice_cmp}
 use Rattle.std.specs.Ordering.{nat_cmp, is_gt}
 use Rattle.std.specs.declared.cmp.Ordering.{Ordering}
 use Rattle.std.specs.declared.cmp.Ordering.TheVariants.{Less, Equal, Greater}
-use Rattle.etp_theory.specs.Trees.{Tree, Shape, leaf, fork, Equation, shape_of, shape_leaves, shape_ops, ops, word_of, law_word, law_ops, exchanged}
+use Rattle.etp_theory.specs.Trees.{Shape, leaf, fork, shape_of, shape_leaves, shape_ops, ops, word_of, law_word, law_ops, exchanged}
 use Rattle.etp_theory.specs.Orders.{shape_cmp}
 use Rattle.etp_laws.specs.Numbering.{numbered}
 use Rattle.etp_laws.specs.Enumeration.{filled, words, pairs_from, shapes, same_tree, is_first_reading, is_listed, is_kept, law_at, laws_at, laws_of, laws_upto}
-use Rattle.etp_laws.proofs.Shapes.{shape_cmp-equal, shape_ops-shape_of}
+use Rattle.etp_term.proofs.Shapes.{shape_cmp-equal, shape_ops-shape_of}
 use Rattle.etp_laws.proofs.Canonical.{cases_Ordering}
 use Rattle.etp_laws.proofs.Rising.{In, All-from_in}
 use Rattle.etp_laws.proofs.Pairs.{pairs_are, AreShapes-shapes}
 use Rattle.etp_laws.proofs.WordLemmas.{words_are, shape_of-filled, word_of-filled}
 use Rattle.etp_laws.proofs.TheList.{same_tree-true, same_tree-itself, shapes_of-law_at, law_word-law_at}
-use Rattle.etp_laws.proofs.Counting.{words_count, length-words}
-use Rattle.etp_laws.proofs.Counts.{laws_upto_4}
+use Rattle.etp_laws.specs.Places.{words_count}
+use Rattle.etp_laws.proofs.Counting.{length-words}
 use Rattle.etp_laws.proofs.Unique.{laws_upto_more}
 
 -- a test of what a function gives is a test of the function's arguments
@@ -52,7 +52,7 @@ shape_leaves-ops (fork a b) = let x = shape_leaves-ops a in let y = shape_leaves
 pub ops-filled : (s : Shape) (w : List ℕ) → ops (filled s w) ≡ shape_ops s
 ops-filled s w = sym (shape_ops-shape_of (filled s w)) ∙ ap shape_ops (shape_of-filled s w)
 
-order_at : (s : Shape × Shape) (w : List ℕ) → shape_cmp (shape_of (law_at s w).left) (shape_of (law_at s w).right) ≡ shape_cmp s.0 s.1
+pub order_at : (s : Shape × Shape) (w : List ℕ) → shape_cmp (shape_of (law_at s w).left) (shape_of (law_at s w).right) ≡ shape_cmp s.0 s.1
 order_at s w = λ i. shape_cmp (shapes_of-law_at s w i).0 (shapes_of-law_at s w i).1
 
 -- the listed laws of unequal shapes are all, or none
@@ -132,6 +132,10 @@ sizes_5 = refl
 -- the 66 pairs of shapes with five operations whose first is less, with 877 laws each
 pub laws_of_5 : length (laws_of 5) ≡ 57882
 laws_of_5 = length-flat_map_at (pairs_from shapes 5) ∙ sizes_5
+
+pub laws_upto_4 : length (laws_upto 4) ≡ 4694
+unfolding laws_upto
+laws_upto_4 = refl
 
 pub laws_upto_5 : length (laws_upto 5) ≡ 62576
 laws_upto_5 =

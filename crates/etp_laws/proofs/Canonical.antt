@@ -1,4 +1,4 @@
-use Rattle.std.proofs.Common.{◌≡◌, ℕ, ◌⊎◌, ◌↔◌, inl, inr, ◌++◌, List, [], ◌∷◌, map, refl, sym, ◌∙◌, ap, subst, arith, false}
+use Rattle.std.proofs.Common.{◌≡◌, ℕ, ◌⊎◌, inl, inr, ◌++◌, List, [], ◌∷◌, map, refl, sym, ◌∙◌, ap, subst, arith, false}
 use Rattle.std.proofs.lemmas.Bool.{true≢false}
 use Rattle.std.proofs.lemmas.Bool.Decides.{nat_tests}
 use Rattle.std.proofs.lemmas.Cmp.{tied_itself, upto, nat_list_cmp_total}
@@ -13,7 +13,7 @@ use Rattle.etp_theory.specs.Trees.{Tree, var, op, Shape, fork, Equation, shape_o
 use Rattle.etp_laws.specs.Listing.{Listed}
 use Rattle.etp_laws.specs.Numbering.{numbered}
 use Rattle.etp_laws.specs.Canonical.{IsCanonical}
-use Rattle.etp_laws.proofs.Shapes.{shape_total, shape_cmp-equal, shape_ops-shape_of}
+use Rattle.etp_term.proofs.Shapes.{shape_total, shape_cmp-equal, shape_ops-shape_of}
 use Rattle.etp_laws.proofs.Numbers.{numbered_by, numbered_least, numbered-map}
 
 pub cases_Ordering : (o : Ordering) → (o ≡ Less) ⊎ ((o ≡ Equal) ⊎ (o ≡ Greater))
@@ -163,7 +163,3 @@ listed_from_canonical p c = record { sides = c.sides; first = none }
     none : (q : Equation) → law_cmp q p ≡ Less → ¬ Same p q
     none q e (f, inj, inl h) = plain f inj (ap (λ x. law_cmp x p) h ∙ e)
     none q e (f, inj, inr h) = other f inj (ap (λ x. law_cmp (exchanged x) p) h ∙ e) (cases_Ordering (shape_cmp (shape_of p.left) (shape_of p.right)))
-
--- a law is listed exactly where it is canonical
-pub listed_iff : (p : Equation) → Listed p ↔ IsCanonical p
-listed_iff p = (canonical_from_listed p, listed_from_canonical p)

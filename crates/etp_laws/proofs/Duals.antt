@@ -4,7 +4,7 @@ use Rattle.etp_theory.specs.Trees.{Tree, var, op, Equation, ops, law_ops, rename
 use Rattle.etp_laws.specs.Listing.{Listed}
 use Rattle.etp_laws.proofs.Readings.{Same-sym, Listed-unique}
 
-dual-dual : (t : Tree) → dual (dual t) ≡ t
+pub dual-dual : (t : Tree) → dual (dual t) ≡ t
 dual-dual (var v) = refl
 dual-dual (op l r) = λ i. op (dual-dual l i) (dual-dual r i)
 

@@ -1,27 +1,26 @@
 -- The list that `Laws` holds, and its entries by their numbers.
-use Rattle.std.proofs.Common.{◌≡◌, ℕ, ◌-◌, ◌+◌, ◌<◌, ◌≤◌, ◌⊎◌, inl, inr, List, [], ◌^◌, length, map, get_or, Contains, Option, Some, None, cond, ◌==◌, true, false, refl, sym, ◌∙◌, ap, subst, arith}
+use Rattle.std.proofs.Common.{◌≡◌, ℕ, ◌-◌, ◌<◌, ◌≤◌, ◌⊎◌, inl, inr, List, ◌^◌, length, get_or, Contains, Some, None, ◌==◌, sym, ◌∙◌, ap, subst, arith}
 use Rattle.std.proofs.Math.Logic.{∥∥₁_elim}
 use Rattle.std.proofs.lemmas.Bool.{cases_lt, cond-true, cond-false, eq-eqb, ne_eqb}
 use Rattle.std.proofs.lemmas.List.Elements.{All-contains}
-use Rattle.std.proofs.lemmas.Option.{slice_get_cases, slice_get-map}
-use Rattle.std.specs.Option.{option_map}
+use Rattle.std.proofs.lemmas.Option.{slice_get_cases}
 use Rattle.std.specs.List.{slice_get}
-use Rattle.std.specs.Coded.{Coded-set, coded_list}
+use Rattle.std.specs.Coded.{Coded-set, coded_list, coded_ℕ}
 use Rattle.etp_theory.specs.Trees.{Equation, law_ops}
 use Rattle.etp_laws.specs.Listing.{Listed, IsTheList}
 use Rattle.etp_laws.specs.LawLists.{LawList, entry_at}
 use Rattle.etp_laws.specs.Coding.{coded_equation}
 use Rattle.etp_laws.specs.Enumeration.{laws_upto}
+use Rattle.etp_laws.specs.Places.{dual_numbers}
 use Rattle.etp_laws.proofs.TheList.{laws_upto_is}
-use Rattle.etp_laws.proofs.Counts.{laws_upto_4}
-use Rattle.etp_laws.proofs.Blocks.{laws_upto_5}
+use Rattle.etp_laws.proofs.Blocks.{laws_upto_4, laws_upto_5}
 
 -- what stands behind the truncation of the type's invariant
 pub the_laws : (k : ℕ) (es : List Equation) → ∥ es ≡ laws_upto k ∥₁ → es ≡ laws_upto k
 the_laws k es h = ∥∥₁_elim h (Coded-set (coded_list coded_equation) _ _) (λ h. h)
 
-pub the_list : (l : LawList) (k : ℕ) (es : List Equation) → (let m : LawList = record { order = k; equations = es } in m ≡ l) → ∥ es ≡ laws_upto k ∥₁ → IsTheList l.order l.equations
-the_list l k es v h = subst (λ (m : LawList). IsTheList m.order m.equations) v (subst (IsTheList k) (sym (the_laws k es h)) (laws_upto_is k))
+pub the_list : (l : LawList) (k : ℕ) (es : List Equation) (ds : List ℕ) → (let m : LawList = record { order = k; equations = es; duals = ds } in m ≡ l) → ∥ es ≡ laws_upto k ∥₁ → IsTheList l.order l.equations
+the_list l k es ds v h = subst (λ (m : LawList). IsTheList m.order m.equations) v (subst (IsTheList k) (sym (the_laws k es h)) (laws_upto_is k))
 
 pub four_long : (k : ℕ) (es : List Equation) → ∥ es ≡ laws_upto k ∥₁ → k ≡ 4 → length es ≡ 4694
 four_long k es h e = ap length (the_laws k es h ∙ ap laws_upto e) ∙ laws_upto_4
@@ -67,3 +66,7 @@ Listed-entry k xs n e l h = All-contains Listed xs e l.sound (Contains-entry xs 
 
 pub small_entry : (k : ℕ) (xs : List Equation) (n : ℕ) (e : Equation) → IsTheList k xs → entry_at xs n ≡ Some e → law_ops e ≤ k
 small_entry k xs n e l h = All-contains (λ p. law_ops p ≤ k) xs e l.small (Contains-entry xs n e h)
+
+-- what stands behind the truncation of the numbers of the duals
+pub the_duals : (es : List Equation) (ds : List ℕ) → ∥ ds ≡ dual_numbers es ∥₁ → ds ≡ dual_numbers es
+the_duals es ds h = ∥∥₁_elim h (Coded-set (coded_list coded_ℕ) _ _) (λ h. h)

@@ -10,7 +10,7 @@ use Rattle.std.specs.declared.cmp.Ordering.TheVariants.{Less, Greater}
 use Rattle.etp_theory.specs.Orders.{shape_cmp}
 use Rattle.etp_theory.specs.Trees.{Shape, leaf, fork, shape_ops}
 use Rattle.etp_laws.specs.Enumeration.{pairs_from, joined, shapes}
-use Rattle.etp_laws.proofs.Shapes.{shape_total}
+use Rattle.etp_term.proofs.Shapes.{shape_total}
 use Rattle.etp_laws.proofs.Rising.{In, In-map, In-map_source, Rising-map, each}
 use Rattle.etp_laws.proofs.Pairs.{pair_cmp, pairs_are, In-pairs, Rising-pairs, AreShapes-shapes}
 

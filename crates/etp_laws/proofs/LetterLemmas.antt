@@ -1,5 +1,7 @@
 -- Numbering a word letter by letter.
-use Rattle.std.proofs.Common.{◌≡◌, ℕ, ◌+◌, ◌<◌, ◌≤◌, ◌⊎◌, inl, inr, ◌++◌, List, [], ◌∷◌, length, drop, get_or, refl, sym, ◌∙◌, ap, arith, add-one, append_assoc, drop-cons}
+use Rattle.std.proofs.Common.{position, ◌==◌, Some, None, cond, ◌≡◌, ℕ, ◌+◌, ◌<◌, ◌≤◌, ◌⊎◌, inl, inr, ◌++◌, List, [], ◌∷◌, length, drop, get_or, refl, sym, ◌∙◌, ap, arith, add-one, append_assoc, drop-cons}
+use Rattle.std.proofs.lemmas.Bool.{lt-ltb, le-ltb}
+use Rattle.std.specs.Option.{unwrap_or}
 use Rattle.etp_laws.specs.Numbering.{place, seen_after, numbered_after, seen_all, numbered}
 use Rattle.etp_laws.proofs.Numbers.{place_at_most, after_seen, after_new, length_push}
 
@@ -29,3 +31,17 @@ numbered_after-append s (v ∷ u) w = ap (λ x. place s v ∷ x) (numbered_after
 pub numbered_both : (u w seen seen' numbers numbers' both : List ℕ) → seen ≡ [] → numbers ≡ [] → numbers' ≡ numbers ++ numbered_after seen u → seen' ≡ seen_all seen u → both ≡ numbers' ++ numbered_after seen' w → both ≡ numbered (u ++ w)
 numbered_both u w seen seen' numbers numbers' both s n n' s' b =
     b ∙ (λ i. n' i ++ numbered_after (s' i) w) ∙ (λ i. (n i ++ numbered_after (s i) u) ++ numbered_after (seen_all (s i) u) w) ∙ sym (numbered_after-append [] u w)
+
+pub place-position : (seen : List ℕ) (v : ℕ) → unwrap_or (position (λ x. x == v) seen) (length seen) ≡ place seen v
+place-position seen v = one (place_at_most seen v)
+  where
+    one : ((place seen v < length seen) ⊎ (place seen v ≡ length seen)) → unwrap_or (position (λ x. x == v) seen) (length seen) ≡ place seen v
+    one (inl h) = ap (λ b. unwrap_or (cond b (Some (place seen v)) None) (length seen)) (lt-ltb (place seen v) (length seen) h)
+    one (inr e) = ap (λ b. unwrap_or (cond b (Some (place seen v)) None) (length seen)) (le-ltb (place seen v) (length seen) (omega arith)) ∙ sym e
+
+pub place-le : (seen : List ℕ) (v : ℕ) → place seen v ≤ length seen
+place-le seen v = one (place_at_most seen v)
+  where
+    one : ((place seen v < length seen) ⊎ (place seen v ≡ length seen)) → place seen v ≤ length seen
+    one (inl h) = omega arith
+    one (inr e) = omega arith

@@ -8,7 +8,7 @@ use Rattle.std.specs.Ordering.{nat_cmp, ordering_then, is_gt}
 use Rattle.std.specs.declared.cmp.Ordering.{Ordering}
 use Rattle.std.specs.declared.cmp.Ordering.TheVariants.{Less, Equal}
 use Rattle.etp_theory.specs.Sameness.{IsInjective}
-use Rattle.etp_laws.specs.Numbering.{place, seen_after, numbered_after, numbered}
+use Rattle.etp_laws.specs.Numbering.{place, seen_after, numbered_after, numbered, Grows}
 
 -- the renaming g gives each variable that was seen its place, and every other one a number from there on
 abbrev pub Stage : (ℕ → ℕ) → List ℕ → Type 0
@@ -181,11 +181,6 @@ numbered-map f inj w = numbered_after-map f inj w []
 
 pub numbered-numbered : (w : List ℕ) → numbered (numbered w) ≡ numbered w
 numbered-numbered w = let n = numbered_by w in ap numbered (sym n.is) ∙ numbered-map n.to n.injective w
-
--- variables numbered by first occurrence, k of them before
-abbrev pub Grows : ℕ → List ℕ → Type 0
-Grows k [] = Unit {0}
-Grows k (v ∷ w) = ((v < k) × Grows k w) ⊎ ((v ≡ k) × Grows (k + 1) w)
 
 pub place_at_most : (seen : List ℕ) (v : ℕ) → (place seen v < length seen) ⊎ (place seen v ≡ length seen)
 place_at_most [] v = inr refl

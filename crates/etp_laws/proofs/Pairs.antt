@@ -9,7 +9,7 @@ use Rattle.std.specs.declared.cmp.Ordering.TheVariants.{Less, Equal}
 use Rattle.etp_theory.specs.Orders.{shape_cmp}
 use Rattle.etp_theory.specs.Trees.{Shape, leaf, fork, shape_ops}
 use Rattle.etp_laws.specs.Enumeration.{pairs_from, joined, shapes_within, shapes}
-use Rattle.etp_laws.proofs.Shapes.{shape_total}
+use Rattle.etp_term.proofs.Shapes.{shape_total}
 use Rattle.etp_laws.proofs.Rising.{In, In-map, In-map_source, In-flat_map, In-flat_map_source, In-range, In-range_bounds, Rising-map, Rising-flat_map, Rising-range}
 
 nat_cmp-same : (a b : ℕ) → a ≡ b → nat_cmp a b ≡ Equal

@@ -1,9 +1,8 @@
-use Rattle.std.proofs.Common.{◌≡◌, ◌≢◌, ℕ, ◌+◌, ◌⊎◌, inl, inr, List, [], ◌∷◌, map, refl, sym, ◌∙◌, ap, subst, arith, false}
+use Rattle.std.proofs.Common.{◌≡◌, ◌≢◌, ℕ, ◌+◌, ◌⊎◌, inl, inr, List, [], ◌∷◌, map, refl, sym, ◌∙◌, ap, subst, false}
 use Rattle.std.proofs.lemmas.Bool.{true≢false}
-use Rattle.std.proofs.lemmas.Cmp.{tied_itself, nat_list_cmp_total}
+use Rattle.std.proofs.lemmas.Cmp.{nat_list_cmp_total}
 use Rattle.std.specs.Cmp.Lexicographic.{slice_cmp}
 use Rattle.std.specs.Ordering.{nat_cmp, ordering_reverse, is_gt}
-use Rattle.std.specs.declared.cmp.Ordering.{Ordering}
 use Rattle.std.specs.declared.cmp.Ordering.TheVariants.{Less, Equal, Greater}
 use Rattle.etp_theory.specs.Orders.{shape_cmp}
 use Rattle.etp_theory.specs.Sameness.{IsInjective, Same}
@@ -12,9 +11,9 @@ use Rattle.etp_laws.specs.Enumeration.{law_at}
 use Rattle.etp_laws.specs.Listing.{Listed}
 use Rattle.etp_laws.specs.Numbering.{numbered}
 use Rattle.etp_laws.specs.Canonical.{IsCanonical}
-use Rattle.etp_laws.proofs.Shapes.{shape_total, shape_cmp-equal}
+use Rattle.etp_term.proofs.Shapes.{shape_total, shape_cmp-equal}
 use Rattle.etp_laws.proofs.Numbers.{numbered_by, numbered-map, numbered-numbered}
-use Rattle.etp_laws.proofs.Canonical.{cases_Ordering, shape_of-renamed, law_word-renamed, ops-shape_of, slice_cmp-equal, canonical_from_listed, listed_from_canonical}
+use Rattle.etp_laws.proofs.Canonical.{cases_Ordering, shape_of-renamed, law_word-renamed, ops-shape_of, slice_cmp-equal, canonical_from_listed}
 use Rattle.etp_laws.proofs.TheList.{law_at-shapes_of}
 
 pub renamed-injective : (f : ℕ → ℕ) → IsInjective f → (t u : Tree) → renamed f t ≡ renamed f u → t ≡ u
@@ -27,21 +26,21 @@ renamed-injective f inj (op a b) (op c d) e =
     (λ i. op (renamed-injective f inj a c l i) (renamed-injective f inj b d r i))
 
 -- e is p with its variables numbered by first occurrence
-record Reading (p e : Equation) : Type 0 where
-  by : ℕ → ℕ
-  injective : IsInjective by
-  is : law_renamed by p ≡ e
-  word : law_word e ≡ numbered (law_word p)
+pub record Reading (p e : Equation) : Type 0 where
+  pub by : ℕ → ℕ
+  pub injective : IsInjective by
+  pub is : law_renamed by p ≡ e
+  pub word : law_word e ≡ numbered (law_word p)
 
-reading_of : (p : Equation) → (e : Equation) × Reading p e
+pub reading_of : (p : Equation) → (e : Equation) × Reading p e
 reading_of p =
     let n = numbered_by (law_word p) in
     (law_renamed n.to p, record { by = n.to; injective = n.injective; is = refl; word = law_word-renamed n.to p ∙ n.is })
 
-left_shape : (p e : Equation) → Reading p e → shape_of e.left ≡ shape_of p.left
+pub left_shape : (p e : Equation) → Reading p e → shape_of e.left ≡ shape_of p.left
 left_shape p e r = ap (λ (q : Equation). shape_of q.left) (sym r.is) ∙ shape_of-renamed r.by p.left
 
-right_shape : (p e : Equation) → Reading p e → shape_of e.right ≡ shape_of p.right
+pub right_shape : (p e : Equation) → Reading p e → shape_of e.right ≡ shape_of p.right
 right_shape p e r = ap (λ (q : Equation). shape_of q.right) (sym r.is) ∙ shape_of-renamed r.by p.right
 
 -- a canonical law that a renaming takes p to is p's reading
@@ -110,7 +109,7 @@ Listed-unique p e e' l l' (f, inj, inr h) (g, inj', inr k) =
     same_law e e' (left_shape (exchanged p) e r ∙ sym (left_shape (exchanged p) e' s)) (right_shape (exchanged p) e r ∙ sym (right_shape (exchanged p) e' s)) (r.word ∙ sym s.word)
 
 -- the reading of a law whose left shape is not greater, and whose word is not greater where the shapes are equal, is canonical
-canonical_reading : (p e : Equation) → Reading p e → is_gt (shape_cmp (shape_of p.left) (shape_of p.right)) ≡ false → (shape_of p.left ≡ shape_of p.right → is_gt (slice_cmp nat_cmp (numbered (law_word p)) (numbered (law_word (exchanged p)))) ≡ false) → p.left ≢ p.right → IsCanonical e
+pub canonical_reading : (p e : Equation) → Reading p e → is_gt (shape_cmp (shape_of p.left) (shape_of p.right)) ≡ false → (shape_of p.left ≡ shape_of p.right → is_gt (slice_cmp nat_cmp (numbered (law_word p)) (numbered (law_word (exchanged p)))) ≡ false) → p.left ≢ p.right → IsCanonical e
 canonical_reading p e r s w n = record {
   by_occurrence = ap numbered r.word ∙ numbered-numbered (law_word p) ∙ sym r.word;
   shapes = (λ i. is_gt (shape_cmp (left_shape p e r i) (right_shape p e r i))) ∙ s;
@@ -118,39 +117,8 @@ canonical_reading p e r s w n = record {
   sides = inl (λ h. n (renamed-injective r.by r.injective p.left p.right (ap (λ (q : Equation). q.left) r.is ∙ h ∙ sym (ap (λ (q : Equation). q.right) r.is))));
 }
 
-law_ops-reading : (p e : Equation) → Reading p e → law_ops e ≡ law_ops p
+pub law_ops-reading : (p e : Equation) → Reading p e → law_ops e ≡ law_ops p
 law_ops-reading p e r = λ i. ops-shape_of e.left p.left (left_shape p e r) i + ops-shape_of e.right p.right (right_shape p e r) i
-
--- a law whose sides differ is the same as some listed law
-pub Listed-exists : (p : Equation) → p.left ≢ p.right → (e : Equation) × Listed e × Same p e × (law_ops e ≡ law_ops p)
-Listed-exists p n = by_shapes (cases_Ordering (shape_cmp (shape_of p.left) (shape_of p.right))) (cases_Ordering (slice_cmp nat_cmp (numbered (law_word p)) (numbered (law_word (exchanged p)))))
-  where
-    less_not_equal : Less ≡ Equal → ⊥
-    less_not_equal e = cc
-
-    greater_not_equal : Greater ≡ Equal → ⊥
-    greater_not_equal e = cc
-
-    plain : is_gt (shape_cmp (shape_of p.left) (shape_of p.right)) ≡ false → (shape_of p.left ≡ shape_of p.right → is_gt (slice_cmp nat_cmp (numbered (law_word p)) (numbered (law_word (exchanged p)))) ≡ false) → (e : Equation) × Listed e × Same p e × (law_ops e ≡ law_ops p)
-    plain s w =
-        let r = reading_of p in
-        (r.0, listed_from_canonical r.0 (canonical_reading p r.0 r.1 s w n), (r.1.by, r.1.injective, inl r.1.is), law_ops-reading p r.0 r.1)
-
-    turned : is_gt (shape_cmp (shape_of p.right) (shape_of p.left)) ≡ false → (shape_of p.right ≡ shape_of p.left → is_gt (slice_cmp nat_cmp (numbered (law_word (exchanged p))) (numbered (law_word p))) ≡ false) → (e : Equation) × Listed e × Same p e × (law_ops e ≡ law_ops p)
-    turned s w =
-        let r = reading_of (exchanged p) in
-        let l = law_ops-reading (exchanged p) r.0 r.1 in let more : law_ops r.0 ≡ law_ops p = omega arith in
-        (r.0, listed_from_canonical r.0 (canonical_reading (exchanged p) r.0 r.1 s w (λ h. n (sym h))), (r.1.by, r.1.injective, inr (ap exchanged r.1.is)), more)
-
-    back : (s t : Shape) (o : Ordering) → shape_cmp s t ≡ o → shape_cmp t s ≡ ordering_reverse o
-    back s t o e = shape_total.antisymm t s ∙ ap ordering_reverse e
-
-    by_shapes : ((shape_cmp (shape_of p.left) (shape_of p.right) ≡ Less) ⊎ ((shape_cmp (shape_of p.left) (shape_of p.right) ≡ Equal) ⊎ (shape_cmp (shape_of p.left) (shape_of p.right) ≡ Greater))) → ((slice_cmp nat_cmp (numbered (law_word p)) (numbered (law_word (exchanged p))) ≡ Less) ⊎ ((slice_cmp nat_cmp (numbered (law_word p)) (numbered (law_word (exchanged p))) ≡ Equal) ⊎ (slice_cmp nat_cmp (numbered (law_word p)) (numbered (law_word (exchanged p))) ≡ Greater))) → (e : Equation) × Listed e × Same p e × (law_ops e ≡ law_ops p)
-    by_shapes (inl e) w = plain (ap is_gt e) (λ h. absurd (less_not_equal (sym e ∙ (λ i. shape_cmp (h i) (shape_of p.right)) ∙ tied_itself shape_total (shape_of p.right))))
-    by_shapes (inr (inr e)) w = turned (ap is_gt (back (shape_of p.left) (shape_of p.right) Greater e)) (λ h. absurd (greater_not_equal (sym e ∙ (λ i. shape_cmp (sym h i) (shape_of p.right)) ∙ tied_itself shape_total (shape_of p.right))))
-    by_shapes (inr (inl e)) (inl w) = plain (ap is_gt e) (λ _. ap is_gt w)
-    by_shapes (inr (inl e)) (inr (inl w)) = plain (ap is_gt e) (λ _. ap is_gt w)
-    by_shapes (inr (inl e)) (inr (inr w)) = turned (ap is_gt (back (shape_of p.left) (shape_of p.right) Equal e)) (λ _. ap is_gt (nat_list_cmp_total.antisymm (numbered (law_word (exchanged p))) (numbered (law_word p)) ∙ ap ordering_reverse w))
 
 map-map : (g h : ℕ → ℕ) → ((y : ℕ) → h (g y) ≡ y) → (w : List ℕ) → map h (map g w) ≡ w
 map-map g h e [] = refl

@@ -13,10 +13,10 @@ use Rattle.etp_theory.specs.Orders.{shape_cmp, law_cmp}
 use Rattle.etp_theory.specs.Trees.{Tree, var, op, Shape, fork, Equation, shape_of, word_of, law_word, shape_ops, ops, law_ops, exchanged, shape_leaves}
 use Rattle.etp_laws.specs.Enumeration.{words, pairs_from, joined, shapes, same_tree, is_first_reading, is_listed, law_at, laws_at, laws_of, laws_upto}
 use Rattle.etp_laws.specs.Listing.{Listed, IsTheList, trivial}
-use Rattle.etp_laws.specs.Numbering.{numbered}
+use Rattle.etp_laws.specs.Numbering.{numbered, Grows}
 use Rattle.etp_laws.specs.Canonical.{IsCanonical}
-use Rattle.etp_laws.proofs.Shapes.{shape_total, shape_cmp-equal, shape_ops-shape_of, then_assoc}
-use Rattle.etp_laws.proofs.Numbers.{Grows, Grows-numbered_after, numbered_after-Grows}
+use Rattle.etp_term.proofs.Shapes.{shape_total, shape_cmp-equal, shape_ops-shape_of, then_assoc}
+use Rattle.etp_laws.proofs.Numbers.{Grows-numbered_after, numbered_after-Grows}
 use Rattle.etp_laws.proofs.Canonical.{cases_Ordering, canonical_from_listed, listed_from_canonical}
 use Rattle.etp_laws.proofs.Rising.{In, In-map, In-map_source, In-flat_map, In-flat_map_source, In-filter, In-filter_source, In-range, In-range_bounds, Rising-map, Rising-flat_map, Rising-range, Contains-from_in, All-from_in}
 use Rattle.etp_laws.proofs.WordLemmas.{In-words, words_are, Rising-words, length-word_of, shape_of-filled, word_of-filled, filled-word_of}

@@ -1,14 +1,13 @@
-use Rattle.std.proofs.Common.{inl, inr, ◌≡◌, ℕ, ◌+◌, ◌<◌, ◌≤◌, ◌++◌, List, [], ◌∷◌, length, get_or, Contains, sym, ◌∙◌, ap, suc, zero, arith}
+use Rattle.std.proofs.Common.{inl, inr, ◌≡◌, ℕ, ◌+◌, ◌<◌, ◌≤◌, ◌++◌, List, [], ◌∷◌, length, get_or, Contains, sym, suc, zero, arith}
 use Rattle.std.proofs.lemmas.List.Elements.{All-contains}
 use Rattle.etp_theory.specs.Orders.{law_cmp}
 use Rattle.etp_theory.specs.Trees.{Equation, law_ops}
 use Rattle.etp_laws.specs.Enumeration.{laws_of, laws_upto}
 use Rattle.etp_laws.specs.Listing.{Listed, IsTheList}
-use Rattle.etp_laws.proofs.Shapes.{law_total}
+use Rattle.etp_term.proofs.Shapes.{law_total}
 use Rattle.etp_laws.proofs.Rising.{In, Contains-from_in}
 use Rattle.etp_laws.proofs.EnumerationLemmas.{rising_unique, flat_map_range_more}
 use Rattle.etp_laws.proofs.TheList.{laws_upto_is}
-use Rattle.etp_laws.proofs.Counts.{laws_upto_4}
 
 pub In-from_contains : {X : Type 0} (xs : List X) (x : X) → Contains xs x → In x xs
 In-from_contains xs x h = at xs h.0 h.1 h.2
@@ -28,11 +27,7 @@ IsTheList-unique k xs ys a b =
 pub IsTheList-is : (k : ℕ) (xs : List Equation) → IsTheList k xs → xs ≡ laws_upto k
 IsTheList-is k xs h = IsTheList-unique k xs (laws_upto k) h (laws_upto_is k)
 
--- L(4) has 4694 entries
-pub length-IsTheList : (xs : List Equation) → IsTheList 4 xs → length xs ≡ 4694
-length-IsTheList xs h = ap length (IsTheList-is 4 xs h) ∙ laws_upto_4
-
--- L(k) is a prefix of L(k + 1)
+-- the list of one operation more goes on after the list
 pub laws_upto_more : (k : ℕ) → laws_upto (k + 1) ≡ laws_upto k ++ laws_of (k + 1)
 unfolding laws_upto
 laws_upto_more k = flat_map_range_more laws_of (k + 1)

@@ -1,11 +1,12 @@
 -- The variables of a listed law.
-use Rattle.std.proofs.Common.{◌≡◌, ℕ, ◌+◌, ◌<◌, ◌≤◌, ◌⊎◌, ◌↔◌, inl, inr, ◌++◌, List, [], ◌∷◌, length, Contains, refl, sym, ◌∙◌, ap, subst, suc, max, arith}
+use Rattle.std.proofs.Common.{◌≡◌, ℕ, ◌+◌, ◌<◌, ◌≤◌, ◌⊎◌, inl, inr, ◌++◌, List, [], ◌∷◌, length, sym, ◌∙◌, subst, suc, max, arith}
 use Rattle.std.proofs.lemmas.Bool.{cases_order}
-use Rattle.etp_theory.specs.Trees.{Tree, var, op, Equation, shape_of, shape_ops, shape_leaves, ops, word_of, law_word, law_ops, bound}
+use Rattle.etp_theory.specs.Trees.{Tree, var, op, Equation, shape_of, shape_leaves, word_of, law_word, law_ops, bound}
+use Rattle.etp_laws.specs.Numbering.{Grows}
 use Rattle.etp_laws.specs.Listing.{Listed}
 use Rattle.etp_laws.specs.LawLists.{HasVariables}
-use Rattle.etp_laws.proofs.Shapes.{shape_ops-shape_of}
-use Rattle.etp_laws.proofs.Numbers.{Grows, Grows-numbered_after}
+use Rattle.etp_term.proofs.Shapes.{shape_ops-shape_of}
+use Rattle.etp_laws.proofs.Numbers.{Grows-numbered_after}
 use Rattle.etp_laws.proofs.Canonical.{canonical_from_listed}
 use Rattle.etp_laws.proofs.Rising.{In, Contains-from_in}
 use Rattle.etp_laws.proofs.WordLemmas.{length-word_of}

@@ -1,6 +1,6 @@
 -- Equations written as lists of numbers, from which they are read back. No clause cites it.
 use Rattle.std.specs.Prelude.{ℕ, zero, suc, List, [], ◌∷◌, ◌++◌, ◌≡◌, refl}
-use Rattle.std.specs.Coded.{Coded, code_by, coded×, coded_ℕ, coded_list}
+use Rattle.std.specs.Coded.{Coded, code_by, coded_ℕ, coded_list}
 use Rattle.std.proofs.Common.{◌∙◌, ap, append_assoc}
 use Rattle.etp_theory.specs.Trees.{Tree, var, op, Equation}
 

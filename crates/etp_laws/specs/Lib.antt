@@ -5,3 +5,6 @@ pub mod Enumeration
 pub mod Forms
 pub mod Coding
 pub mod LawLists
+pub mod Places
+pub mod Words
+pub mod Numbers

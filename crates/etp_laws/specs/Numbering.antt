@@ -1,5 +1,5 @@
 -- Words with their variables numbered by first occurrence.
-use Rattle.std.specs.Prelude.{ℕ, ◌==◌, List, [], ◌∷◌, ◌++◌, length, cond}
+use Rattle.std.specs.Prelude.{◌≡◌, ◌⊎◌, ℕ, ◌+◌, ◌<◌, ◌==◌, List, [], ◌∷◌, ◌++◌, length, cond}
 use Rattle.std.specs.List.{position_or_len}
 
 -- the place of v in the variables seen so far, or their number where it is new
@@ -22,3 +22,8 @@ numbered w = numbered_after [] w
 abbrev pub seen_all : List ℕ → List ℕ → List ℕ
 seen_all seen [] = seen
 seen_all seen (v ∷ w) = seen_all (seen_after seen v) w
+
+-- each variable is one of those used so far, k before the word, or the next one
+abbrev pub Grows : ℕ → List ℕ → Type 0
+Grows k [] = Unit {0}
+Grows k (v ∷ w) = ((v < k) × Grows k w) ⊎ ((v ≡ k) × Grows (k + 1) w)

@@ -1,37 +1,55 @@
-ghost use Rattle.std.specs.Prelude.{◌≡◌, ◌⊎◌, ◌≤◌, ◌+◌, IfOk, IfSome, MatchOption, length, max};
+ghost use Rattle.std.specs.Prelude.{◌≡◌, ◌⊎◌, ◌≤◌, ◌+◌, IfOk, IfSome, MatchOption, IsTrue, false, All, length, map, max};
 ghost use Rattle.std.specs.Option.{option_copied, option_map};
 ghost use Rattle.etp_theory.specs.Trees.{Equation, bound, law_ops};
 ghost use Rattle.etp_term.specs.Terms.{tree_of};
 ghost use Rattle.etp_term.specs.Laws.{equation_of};
 ghost use Rattle.etp_laws.specs.Listing.{Listed, IsTheList};
-ghost use Rattle.etp_laws.specs.LawLists.{entry_at, HasVariables};
+ghost use Rattle.etp_laws.specs.LawLists.{entry_at, HasVariables, HasNumber, IsTrivial, IsDualOf, AreDuals, IsOwnInverse};
+ghost use Rattle.etp_laws.specs.Numbers.{IsNumbered};
+ghost use Rattle.etp_laws.specs.Places;
+ghost use Rattle.etp_theory.specs.Reach.{dual_number};
 
 use crate::listing::listed_upto;
+use crate::places::number_of;
 use etp_term::{Law, Term};
 use sqlite_items::Items;
 use std::alloc::{AllocError, Global};
 use std::marker::Model;
+
+/// The number of a law, or why it has none.
+#[derive(Clone, Copy)]
+pub enum Numbered {
+    /// The number of the law of the list that is the same.
+    Is(u32),
+    /// Both sides are equal and aren't a lone variable.
+    Trivial,
+    /// The operations of both sides together, which are more than the list's order; of each side at
+    /// most 65536 are counted.
+    TooManyOps(u32),
+}
 
 /// The listed laws of at most four, or at most five, operations, in order and numbered from 1.
 #[derive(Drop)]
 pub struct Laws {
     order: u8,
     laws: Items<Law>,
+    duals: Items<u32>,
 }
 
 impl Model for Laws {
     ghost use Rattle.std.specs.Prelude.{◌≡◌, ◌≤◌, map};
     ghost use Rattle.etp_laws.specs.LawLists.{LawList, coded_law_list};
     ghost use Rattle.etp_laws.specs.Enumeration.{laws_upto};
+    ghost use Rattle.etp_laws.specs.Places.{dual_numbers};
     ghost use Rattle.etp_term.specs.Laws.{equation_of};
 
     ghost Value = { LawList };
 
     ghost coded = { coded_law_list };
 
-    ghost view = { λ l. record { order = l.order; equations = map equation_of l.laws } };
+    ghost view = { λ l. record { order = l.order; equations = map equation_of l.laws; duals = l.duals } };
 
-    ghost invariant = { λ l. (4 ≤ l.order) × (l.order ≤ 5) × ∥ map equation_of l.laws ≡ laws_upto l.order ∥₁ };
+    ghost invariant = { λ l. (4 ≤ l.order) × (l.order ≤ 5) × ∥ map equation_of l.laws ≡ laws_upto l.order ∥₁ × ∥ l.duals ≡ dual_numbers (map equation_of l.laws) ∥₁ };
 }
 
 impl Laws {
@@ -50,7 +68,8 @@ impl Laws {
         ensures list { IfOk result (λ laws. IsTheList order laws.equations) }
     {
         let laws = listed_upto(alloc, order)?;
-        Ok(Laws { order, laws })
+        let duals = dual_numbers(alloc, laws.as_slice())?;
+        Ok(Laws { order, laws, duals })
     }
 
     /// The greatest number of operations of a law of the list.
@@ -95,6 +114,67 @@ impl Laws {
             None => None,
             Some(law) => Some(variables_of(law)),
         }
+    }
+
+    /// The number of a law.
+    pub fn number(&self, law: &Law) -> Numbered
+        ensures { IsNumbered self.now (equation_of law.now) result }
+    {
+        let ops = law.left.ops() + law.right.ops();
+        if ops > self.order as u32 {
+            return Numbered::TooManyOps(ops);
+        }
+        if is_trivial(law) {
+            return Numbered::Trivial;
+        }
+        Numbered::Is(number_of(&law.left, &law.right, false))
+    }
+
+    /// The number of the dual of law n; None exactly where n is 0 or above the count.
+    pub fn dual(&self, n: u32) -> Option<u32>
+        ensures exact { MatchOption result (entry_at self.now.equations n ≡ None) (λ m. IsDualOf self.now.equations n m) }
+        ensures list { IfSome result (λ m. m ≡ dual_number self.now.duals n) }
+    {
+        let duals = &self.duals;
+        if n == 0 {
+            return None;
+        }
+        match duals.get(n as usize - 1) {
+            None => None,
+            Some(m) => Some(*m),
+        }
+    }
+
+    /// The numbers of all duals: place i holds that of law i + 1.
+    pub fn duals(&self) -> &[u32]
+        ensures value { result.now ≡ self.now.duals }
+        ensures exact { AreDuals self.now.equations self.now.duals }
+        ensures inverse { IsOwnInverse (length self.now.equations) self.now.duals }
+    {
+        self.duals.as_slice()
+    }
+}
+
+/// The numbers of the laws' duals.
+fn dual_numbers(alloc: Global, laws: &[Law]) -> Result<Items<u32>, AllocError>
+    requires { All (λ e. law_ops e ≤ 5) (map equation_of laws.now) }
+    ensures { IfOk result (λ duals. duals ≡ Places.dual_numbers (map equation_of laws.now)) }
+{
+    let mut duals = Items::from_vec(Vec::with_capacity(alloc, laws.len())?);
+    for law in laws {
+        duals.push(number_of(&law.left, &law.right, true))?;
+    }
+    Ok(duals)
+}
+
+/// Whether both sides are equal and aren't a lone variable.
+fn is_trivial(law: &Law) -> bool
+    ensures yes { IsTrue result → IsTrivial (equation_of law.now) }
+    ensures no { result ≡ false → HasNumber (equation_of law.now) }
+{
+    match (&law.left, &law.right) {
+        (Term::Op(_, _), Term::Op(_, _)) => law.left.same_term(&law.right),
+        _ => false,
     }
 }
 

@@ -93,7 +93,9 @@ fn append_numbered(word: &[u8], seen: &mut Letters, numbers: &mut Letters)
 /// The word of two sides, numbered by first occurrence.
 pub fn numbered(left: &[u8], right: &[u8]) -> Letters
     requires { length left.now + length right.now ≤ 8 }
-    ensures { result ≡ Numbering.numbered (left.now ++ right.now) }
+    ensures value { result ≡ Numbering.numbered (left.now ++ right.now) }
+    ensures len { length result ≡ length left.now + length right.now }
+    ensures grows { Numbering.Grows 0 result }
 {
     let mut seen = Letters::new();
     let mut numbers = Letters::new();

@@ -5,7 +5,7 @@ ghost use Rattle.etp_laws.specs.Forms.{shape_from, sides_from};
 ghost use Rattle.etp_laws.specs.Enumeration.{words, is_kept, law_at, laws_at, laws_of, laws_upto};
 
 use crate::forms::{Sides, pairs};
-use crate::words::{is_kept, words};
+use crate::word_lists::{is_kept, words};
 use etp_term::Law;
 use sqlite_items::Items;
 use std::alloc::{AllocError, Global};

@@ -1,5 +1,5 @@
-use Rattle.std.proofs.Common.{◌≡◌, ◌≤◌, ◌+◌, ℕ, max, sym, ◌∙◌, subst, arith}
-use Rattle.etp_theory.specs.Trees.{bound, law_ops}
+use Rattle.std.proofs.Common.{◌≡◌, max, sym, ◌∙◌, subst, arith}
+use Rattle.etp_theory.specs.Trees.{bound}
 use Rattle.etp_term.specs.Terms.{tree_of}
 use Rattle.etp_term.specs.Laws.{equation_of}
 use Rattle.etp_laws.specs.LawLists.{HasVariables}

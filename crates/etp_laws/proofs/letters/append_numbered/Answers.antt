@@ -1,4 +1,4 @@
-use Rattle.std.proofs.Common.{◌≡◌, ◌≤◌, ◌+◌, ◌++◌, ◌∷◌, [], length, drop, get_or, arith, refl, length-append}
+use Rattle.std.proofs.Common.{◌∷◌, [], get_or, arith, refl, length-append}
 use Rattle.etp_laws.proofs.LetterLemmas.{numbered_more, seen_more, length-seen_after}
 use Rattle.etp_laws.proofs.letters.append_numbered.Goals as goal
 

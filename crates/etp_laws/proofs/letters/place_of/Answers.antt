@@ -1,7 +1,7 @@
 use Rattle.std.proofs.Common.{◌≡◌, arith, ◌∙◌, ap, length, ℕ, Option}
 use Rattle.std.specs.Option.{unwrap_or}
 use Rattle.etp_laws.specs.Numbering.{place}
-use Rattle.etp_laws.proofs.FormLemmas.{place-position, place-le}
+use Rattle.etp_laws.proofs.LetterLemmas.{place-position, place-le}
 use Rattle.etp_laws.proofs.letters.place_of.Goals as goal
 
 pub returns : goal.returns

@@ -1,4 +1,4 @@
-use Rattle.std.proofs.Common.{◌≡◌, ◌<◌, ◌^◌, length, map, sym, ◌∙◌, ap, arith}
+use Rattle.std.proofs.Common.{◌≡◌, length, map, sym, ◌∙◌, ap, arith}
 use Rattle.std.proofs.lemmas.List.{length-map}
 use Rattle.etp_term.specs.Laws.{equation_of}
 use Rattle.etp_laws.specs.LawLists.{LawList}
@@ -22,4 +22,4 @@ returns-clause-five c h =
     ∙ five_long c.self.inside.order (map equation_of c.self.inside.laws) c.self.invariant.2 (ap (λ (l : LawList). l.order) c.self.view_is ∙ h)
 
 pub returns-clause-list : goal.returns-clause-list
-returns-clause-list c = the_list c.args.self.now c.self.inside.order _ c.self.view_is c.self.invariant.2
+returns-clause-list c = the_list c.args.self.now c.self.inside.order _ _ c.self.view_is c.self.invariant.2

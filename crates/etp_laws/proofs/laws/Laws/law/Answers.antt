@@ -1,14 +1,13 @@
-use Rattle.std.proofs.Common.{◌≡◌, ◌-◌, ◌<◌, Option, sym, ◌∙◌, ap, arith}
+use Rattle.std.proofs.Common.{◌-◌, sym, ◌∙◌, ap, arith}
 use Rattle.std.proofs.lemmas.Option.{slice_get-map}
 use Rattle.std.specs.Option.{option_map}
 use Rattle.etp_term.specs.Laws.{equation_of}
-use Rattle.etp_term.specs.declared.law.Law.{Law}
 use Rattle.etp_laws.specs.LawLists.{LawList, entry_at}
 use Rattle.etp_laws.proofs.Entries.{the_list, entry_after}
 use Rattle.etp_laws.proofs.laws.Laws.law.Goals as goal
 
 pub returns-then-n-eq0-clause-list : goal.returns-then-n-eq0-clause-list
-returns-then-n-eq0-clause-list c = the_list c.args.self.now c.self.inside.order _ c.self.view_is c.self.invariant.2
+returns-then-n-eq0-clause-list c = the_list c.args.self.now c.self.inside.order _ _ c.self.view_is c.self.invariant.2
 
 pub returns-clause-entry : goal.returns-clause-entry
 returns-clause-entry c =
@@ -18,4 +17,4 @@ returns-clause-entry c =
     ∙ ap (λ (l : LawList). entry_at l.equations c.args.n) c.self.view_is
 
 pub returns-clause-list : goal.returns-clause-list
-returns-clause-list c = the_list c.args.self.now c.self.inside.order _ c.self.view_is c.self.invariant.2
+returns-clause-list c = the_list c.args.self.now c.self.inside.order _ _ c.self.view_is c.self.invariant.2

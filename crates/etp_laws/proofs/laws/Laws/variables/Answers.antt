@@ -1,6 +1,4 @@
-use Rattle.std.proofs.Common.{◌≡◌, ◌≤◌, ◌+◌, Some, sym, ◌∙◌, ap, arith}
-use Rattle.std.specs.Option.{option_copied, option_map}
-use Rattle.etp_theory.specs.Trees.{law_ops}
+use Rattle.std.proofs.Common.{sym, arith}
 use Rattle.etp_term.specs.Laws.{equation_of}
 use Rattle.etp_laws.proofs.Entries.{small_entry}
 use Rattle.etp_laws.proofs.laws.Laws.variables.Goals as goal

@@ -24,7 +24,7 @@ fn append_longer(
 }
 
 /// How many variables are used after `v`, where `used` were before.
-fn used_after(used: u8, v: u8) -> u8
+pub fn used_after(used: u8, v: u8) -> u8
     requires { used < 255 }
     ensures value { result ≡ used_after used v }
     ensures more { result ≤ used + 1 }
