@@ -1,5 +1,5 @@
 -- The reader's tokens are those of the grammar, and bytes begin with tokens in one way.
-use Rattle.std.proofs.Common.{◌≡◌, ◌≢◌, ℕ, zero, suc, ◌+◌, ◌-◌, ◌<◌, ◌≤◌, Bool, true, false, cond, ◌&&◌, ◌||◌, eqb, leb, ◌⊎◌, inl, inr, Option, Some, None, List, [], ◌∷◌, ◌++◌, length, take, codes, refl, sym, ap, ap₂, ◌∙◌, subst, arith, append_assoc, append-nil, length-append, eqb-true, ne_eqb}
+use Rattle.std.proofs.Common.{◌≡◌, ◌≢◌, ℕ, ◌+◌, ◌-◌, ◌<◌, ◌≤◌, Bool, true, false, cond, ◌&&◌, eqb, ◌⊎◌, inl, inr, Option, Some, None, List, [], ◌∷◌, ◌++◌, length, take, codes, refl, sym, ap, ap₂, ◌∙◌, subst, arith, length-append, eqb-true, ne_eqb}
 use Rattle.std.specs.Char.{is_ascii_alphabetic, is_ascii_alphanumeric}
 use Rattle.std.specs.List.{AllByRecursion}
 use Rattle.std.proofs.lemmas.Bool.{cond-true, cond-false}
@@ -7,11 +7,11 @@ use Rattle.std.proofs.lemmas.Bool.Decides.{nat_tests}
 use Rattle.std.proofs.lemmas.List.{take-append-le, take_all}
 use Rattle.std.proofs.lemmas.Option.{some_pair_parts}
 use Rattle.etp_text.specs.Written.{variable_name}
-use Rattle.etp_text.specs.Grammar.{is_blank, AreBlanks, IsName, IsToken, IsNameOver, MayEnd, StartsWith, Begins, AreTokens}
+use Rattle.etp_text.specs.Grammar.{is_blank, AreBlanks, IsName, IsToken, IsNameOver, MayEnd, StartsWith, Begins}
 use Rattle.etp_text.specs.Machine.{skip_blanks, name_at, behind_name, named, sign_at, token_at}
 use Rattle.etp_text.specs.declared.token.Token.{Token}
 use Rattle.etp_text.specs.declared.token.Token.TheVariants.{Opening, Closing, Equals, Operator, Variable, Unknown}
-use Rattle.etp_text.proofs.Names.{split, both, Named, IsVariableName, name_named, variable_named, variable_is_name, name_token}
+use Rattle.etp_text.proofs.Names.{split, both, name_named, variable_named, variable_is_name, name_token}
 
 abbrev pub IsAlnum : ℕ → Type 0
 IsAlnum byte = is_ascii_alphanumeric byte ≡ true

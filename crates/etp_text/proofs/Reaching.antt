@@ -1,8 +1,8 @@
 -- What has been read is the front of a text of the grammar.
-use Rattle.std.proofs.Common.{◌≡◌, ℕ, Bool, true, false, ◌⊎◌, inl, inr, Option, Some, None, option_and_then, List, [], ◌∷◌, ◌++◌, refl, sym, ap, ap₂, ◌∙◌, subst, append_assoc, append-nil}
-use Rattle.etp_theory.specs.Trees.{Tree, var, op, Equation}
+use Rattle.std.proofs.Common.{◌≡◌, Bool, true, false, Option, Some, None, option_and_then, List, [], ◌∷◌, ◌++◌, refl, sym, ap, ◌∙◌, subst, append_assoc, append-nil}
+use Rattle.etp_theory.specs.Trees.{Tree, var, op}
 use Rattle.etp_text.specs.Grammar.{IsAtom, IsSide, IsLaw, variable, enclosed, alone, joined}
-use Rattle.etp_text.specs.Refusals.{IsTermText, IsLawText, IsViable}
+use Rattle.etp_text.specs.Refusals.{IsViable}
 use Rattle.etp_text.specs.Machine.{Stand, wanted, atom, pair, State, start, placed, step, run, text_of, side_in}
 use Rattle.etp_text.specs.declared.token.Token.{Token}
 use Rattle.etp_text.specs.declared.token.Token.TheVariants.{Opening, Closing, Equals, Operator, Variable, Unknown}

@@ -1,11 +1,10 @@
 -- What spells a side or a law is read as it: the grammar's texts are runs.
-use Rattle.std.proofs.Common.{◌≡◌, ℕ, Bool, true, false, ◌⊎◌, inl, inr, Option, Some, None, option_and_then, List, [], ◌∷◌, ◌++◌, refl, sym, ap, ap₂, ◌∙◌, subst, append_assoc, append-nil}
-use Rattle.etp_theory.specs.Trees.{Tree, var, op, Equation}
+use Rattle.std.proofs.Common.{◌≡◌, Bool, true, false, ◌⊎◌, inl, inr, Option, Some, None, option_and_then, List, [], ◌∷◌, ◌++◌, refl, sym, ap, ◌∙◌, append_assoc, append-nil}
+use Rattle.etp_theory.specs.Trees.{Tree, op, Equation}
 use Rattle.etp_text.specs.Grammar.{IsAtom, IsSide, IsLaw, variable, enclosed, alone, joined}
-use Rattle.etp_text.specs.Refusals.{IsTermText, IsLawText}
-use Rattle.etp_text.specs.Machine.{Stand, wanted, atom, pair, State, start, placed, step, run, text_of, side_in}
+use Rattle.etp_text.specs.Machine.{Stand, wanted, atom, pair, State, start, placed, step, run, text_of}
 use Rattle.etp_text.specs.declared.token.Token.{Token}
-use Rattle.etp_text.specs.declared.token.Token.TheVariants.{Opening, Closing, Equals, Operator, Variable, Unknown}
+use Rattle.etp_text.specs.declared.token.Token.TheVariants.{Opening, Closing, Equals, Operator, Unknown}
 
 abbrev pub at : Option Tree → List (Option Tree) → Stand → State
 at left parts stand = record { left = left; open_parts = parts; stand = stand }

@@ -1,10 +1,10 @@
 -- What is written spells what it was written of.
-use Rattle.std.proofs.Common.{◌≡◌, ℕ, suc, ◌<◌, ◌≤◌, inl, inr, List, [], ◌∷◌, ◌++◌, codes, refl, sym, ap, ◌∙◌, subst, arith, append_assoc, append-nil}
+use Rattle.std.proofs.Common.{◌≡◌, ℕ, ◌<◌, ◌≤◌, inr, List, [], ◌∷◌, ◌++◌, codes, refl, sym, subst, arith, append_assoc, append-nil}
 use Rattle.etp_theory.specs.Trees.{Tree, var, op, Equation, bound}
 use Rattle.etp_text.specs.Written.{sign, variable_name, written_part, written_term, written_law}
-use Rattle.etp_text.specs.Grammar.{AreBlanks, IsNameOver, StartsWith, Begins, IsAtom, IsSide, variable, enclosed, alone, joined, SpellsTerm, SpellsLaw}
+use Rattle.etp_text.specs.Grammar.{AreBlanks, IsNameOver, Begins, IsAtom, IsSide, variable, enclosed, alone, joined, SpellsTerm, SpellsLaw}
 use Rattle.etp_text.specs.declared.token.Token.{Token}
-use Rattle.etp_text.specs.declared.token.Token.TheVariants.{Opening, Closing, Equals, Operator, Variable, Unknown}
+use Rattle.etp_text.specs.declared.token.Token.TheVariants.{Opening, Closing, Equals, Operator, Variable}
 use Rattle.etp_text.proofs.Lexing.{begins_append}
 
 abbrev pub part_tokens : Tree → List Token

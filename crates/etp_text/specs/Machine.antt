@@ -1,11 +1,11 @@
 -- How the reader goes over a text: one token after another, with what has been read so far.
-use Rattle.std.specs.Prelude.{ℕ, ◌+◌, ◌-◌, ◌*◌, ◌≡◌, Bool, true, false, cond, nat_eq, nat_le, nat_lt, ◌&&◌, Option, None, Some, List, [], ◌∷◌, map, length, Result, Ok, Err, IsSome, if◌then◌else◌}
+use Rattle.std.specs.Prelude.{ℕ, ◌+◌, ◌-◌, ◌*◌, ◌≡◌, Bool, true, false, nat_eq, nat_le, nat_lt, ◌&&◌, Option, None, Some, List, [], ◌∷◌, map, length, Result, Ok, Err, IsSome, if◌then◌else◌}
 use Rattle.std.specs.Option.{option_map, option_and_then}
 use Rattle.std.specs.Char.{is_ascii_alphabetic, is_ascii_alphanumeric}
 use Rattle.etp_theory.specs.Trees.{Tree, var, op}
 use Rattle.etp_term.specs.Terms.{tree_of}
 use Rattle.etp_text.specs.Grammar.{is_blank, AreBlanks, Begins}
-use Rattle.etp_text.specs.Refusals.{IsTermText, IsLawText, IsSyntaxAt, IsVariableAt, as_variable}
+use Rattle.etp_text.specs.Refusals.{IsTermText, IsLawText, IsSyntaxAt, IsVariableAt}
 use Rattle.etp_text.specs.declared.token.Token.{Token}
 use Rattle.etp_text.specs.declared.token.Token.TheVariants.{Opening, Closing, Equals, Operator, Variable, Unknown}
 use Rattle.etp_text.specs.declared.reading.Part.{Part}

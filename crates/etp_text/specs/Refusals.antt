@@ -1,9 +1,9 @@
 -- Why a text is refused: the first refusal from left to right.
-use Rattle.std.specs.Prelude.{ℕ, ◌+◌, ◌<◌, ◌≤◌, ◌≡◌, ◌≢◌, ◌⊎◌, Bool, true, false, List, [], ◌∷◌, ◌++◌, length, Result, Ok, Err}
+use Rattle.std.specs.Prelude.{ℕ, ◌+◌, ◌<◌, ◌≤◌, ◌≡◌, ◌⊎◌, false, List, [], ◌∷◌, ◌++◌, length, Result, Ok, Err}
 use Rattle.etp_theory.specs.Trees.{Tree, Equation, leaves}
 use Rattle.etp_text.specs.Grammar.{is_blank, AreBlanks, StartsWith, Begins, IsSide, IsLaw, SpellsTerm, SpellsLaw}
 use Rattle.etp_text.specs.declared.token.Token.{Token}
-use Rattle.etp_text.specs.declared.token.Token.TheVariants.{Opening, Closing, Equals, Operator, Variable, Unknown}
+use Rattle.etp_text.specs.declared.token.Token.TheVariants.{Variable, Unknown}
 use Rattle.etp_text.specs.declared.refusal.TextRefusal.{TextRefusal}
 use Rattle.etp_text.specs.declared.refusal.TextRefusal.TheVariants.{Syntax, Variable as WrongVariable, TooLarge, NoMemory}
 

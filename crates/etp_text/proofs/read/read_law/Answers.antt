@@ -1,4 +1,4 @@
-use Rattle.std.proofs.Common.{◌≡◌, ◌≤◌, ◌∙◌, Err, inl, inr, subst, sym, refl, ap, option_map, arith}
+use Rattle.std.proofs.Common.{inl, inr, subst, sym, refl, ap, option_map, arith}
 use Rattle.std.proofs.lemmas.Result.{err_from_is_err_and}
 use Rattle.etp_theory.specs.Trees.{Equation, leaves}
 use Rattle.etp_term.specs.Terms.{tree_of}

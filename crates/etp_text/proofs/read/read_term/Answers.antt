@@ -1,4 +1,4 @@
-use Rattle.std.proofs.Common.{◌≡◌, ◌≤◌, ◌∙◌, Err, subst, sym, refl, ap, arith}
+use Rattle.std.proofs.Common.{subst, sym, refl, ap, arith}
 use Rattle.std.proofs.lemmas.Result.{err_from_is_err_and}
 use Rattle.etp_theory.specs.Trees.{leaves}
 use Rattle.etp_term.specs.Terms.{tree_of}

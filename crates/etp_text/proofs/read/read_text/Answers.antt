@@ -1,6 +1,6 @@
-use Rattle.std.proofs.Common.{◌≡◌, ◌≤◌, ◌<◌, ◌+◌, length, true, eqb, eqb-true, false-eqb, ap, sym, ◌∙◌, arith}
+use Rattle.std.proofs.Common.{length, eqb-true, false-eqb, ap, sym, ◌∙◌, arith}
 use Rattle.std.proofs.lemmas.Result.{err_from_is_err_and}
-use Rattle.etp_text.specs.Machine.{state_of, text_of, HasReadAll, RefusesText}
+use Rattle.etp_text.specs.Machine.{state_of}
 use Rattle.etp_text.proofs.Answering.{read_length, skip_length, only_blanks, stops_at_byte, stops_at_token, goes_on, goes_down}
 use Rattle.etp_text.proofs.read.read_text.Goals as goal
 

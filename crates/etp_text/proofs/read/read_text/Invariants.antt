@@ -1,4 +1,4 @@
-use Rattle.std.proofs.Common.{ℕ, length}
+use Rattle.std.proofs.Common.{length}
 use Rattle.etp_text.specs.Machine.{state_of, HasRead}
 use Rattle.etp_text.proofs.read.read_text.Given as goal
 

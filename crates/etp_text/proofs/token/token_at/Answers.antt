@@ -1,5 +1,5 @@
-use Rattle.std.proofs.Common.{◌≡◌, ◌≤◌, ◌-◌, ◌∷◌, List, ℕ, length, take, Some, ap, ap₂, ◌∙◌, sym, refl, arith}
-use Rattle.etp_text.specs.Machine.{behind_name, name_at, named, token_at}
+use Rattle.std.proofs.Common.{◌≡◌, ◌-◌, ◌∷◌, List, ℕ, length, take, Some, ap, ap₂, ◌∙◌, sym, arith}
+use Rattle.etp_text.specs.Machine.{name_at, named, token_at}
 use Rattle.etp_text.proofs.Lexing.{name_read, name_taken, behind_length}
 use Rattle.etp_text.proofs.token.token_at.Goals as goal
 
