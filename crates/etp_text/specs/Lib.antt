@@ -1,1 +1,5 @@
 pub mod Written
+pub mod Grammar
+pub mod Refusals
+pub mod Machine
+pub mod Theorems

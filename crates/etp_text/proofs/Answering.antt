@@ -1,0 +1,277 @@
+-- What the reader answers is what the grammar says of the text.
+use Rattle.std.proofs.Common.{◌≡◌, ℕ, ◌+◌, ◌<◌, ◌≤◌, Bool, true, false, Err, ◌⊎◌, inl, inr, Option, Some, None, IsSome, option_and_then, List, [], ◌∷◌, ◌++◌, length, refl, sym, ap, ap₂, ◌∙◌, subst, arith, append_assoc, append-nil, length-append}
+use Rattle.std.proofs.lemmas.Bool.{cond-false}
+use Rattle.std.proofs.lemmas.Option.{some_pair_parts}
+use Rattle.etp_theory.specs.Trees.{Tree, Equation, leaves}
+use Rattle.etp_text.specs.Grammar.{is_blank, AreBlanks, StartsWith, Begins, AreTokens, IsAtom, IsSide, IsLaw, variable, enclosed, alone, joined, SpellsTerm, SpellsLaw}
+use Rattle.etp_text.specs.Refusals.{side_limit, RefusesTerm, RefusesLaw, IsTermText, IsLawText, IsViable, Before, IsSyntaxAt, IsVariableAt, as_variable}
+use Rattle.etp_text.specs.Machine.{skip_blanks, token_at, Takes, RefusesText, Stand, State, start, step, run, text_of, side_in, HasRead, HasReadAll}
+use Rattle.etp_text.specs.declared.token.Token.{Token}
+use Rattle.etp_text.specs.declared.token.Token.TheVariants.{Opening, Closing, Equals, Operator, Variable, Unknown}
+use Rattle.etp_text.specs.declared.refusal.TextRefusal.{TextRefusal}
+use Rattle.etp_text.specs.declared.refusal.TextRefusal.TheVariants.{Syntax, Variable as WrongVariable, TooLarge, NoMemory}
+use Rattle.etp_text.proofs.Lexing.{Skipped, skips, no_blank, start_longer, start_kept, skipped, all_skipped, token_read, token_found, no_token, first_read, begins_append, begins_length, front_of_all}
+use Rattle.etp_text.proofs.Running.{at, IsStand, run_append, term_run, law_run, text_run, unviable, step_unknown}
+use Rattle.etp_text.proofs.Reaching.{viable, term_read, law_read}
+
+run_more : (laws : Bool) (ts : List Token) (t : Token) (state next : State) → run laws start ts ≡ Some state → step laws state t ≡ Some next → run laws start (ts ++ t ∷ []) ≡ Some next
+run_more laws ts t state next h k =
+    run_append laws start ts (t ∷ []) ∙ (ap (option_and_then (λ n. run laws n (t ∷ []))) h ∙ ap (option_and_then (λ n. run laws n [])) k)
+
+-- behind one more token
+pub reads_on : (laws : Bool) (bytes rest next behind : List ℕ) (t : Token) (state after : State)
+    → HasRead laws bytes rest state → Skipped rest next → StartsWith next t behind → step laws state t ≡ Some after → HasRead laws bytes behind after
+reads_on laws bytes rest next behind t state after (ts, b, r) (blanks, a, e) s k =
+    (ts ++ t ∷ [], begins_append bytes ts (t ∷ []) rest behind b (blanks, next, behind, a, e, s, refl), run_more laws ts t state after r k)
+
+before : (laws : Bool) (bytes rest next : List ℕ) (state : State) (place : ℕ) → HasRead laws bytes rest state → Skipped rest next → place + length next ≡ length bytes
+    → (b : Before (text_of laws) bytes place) × (b.rest ≡ next) × (run laws start b.tokens ≡ Some state)
+before laws bytes rest next state place (ts, b, r) (blanks, a, e) p =
+    (record { tokens = ts; blanks = blanks; rest = next; tokens_begin = subst (Begins bytes ts) e b; viable = viable laws ts state r; are_blanks = a; place = p }, refl, r)
+
+-- the refusals
+pub no_place : (laws : Bool) (bytes rest next behind : List ℕ) (t : Token) (state : State) (place : ℕ)
+    → HasRead laws bytes rest state → Skipped rest next → StartsWith next t behind → place + length next ≡ length bytes → step laws state (as_variable t) ≡ None
+    → IsSyntaxAt (text_of laws) bytes place
+no_place laws bytes rest next behind t state place h k s p e =
+    let b = before laws bytes rest next state place h k p in
+    inl (record { before = b.0; token = t; after = behind; is_next = subst (λ x. StartsWith x t behind) (sym b.1) s; unviable = λ (more, w). unviable laws b.0.tokens state (as_variable t) b.2 e more w })
+
+pub no_token_there : (laws : Bool) (bytes rest next : List ℕ) (state : State) (place byte : ℕ) (more : List ℕ)
+    → HasRead laws bytes rest state → Skipped rest next → place + length next ≡ length bytes → next ≡ byte ∷ more → is_blank byte ≡ false → token_at next ≡ None
+    → IsSyntaxAt (text_of laws) bytes place
+no_token_there laws bytes rest next state place byte more h k p e n none =
+    let b = before laws bytes rest next state place h k p in
+    inr (inl (record { before = b.0; byte = byte; more = more; is_next = b.1 ∙ e; no_blank = n; no_token = subst (λ x. (t : Token) (r : List ℕ) → StartsWith x t r → ⊥) (sym b.1) (no_token next none) }))
+
+pub wrong_variable : (laws : Bool) (bytes rest next behind : List ℕ) (t : Token) (state : State) (place : ℕ)
+    → HasRead laws bytes rest state → Skipped rest next → StartsWith next t behind → place + length next ≡ length bytes → t ≡ Unknown → IsSome (step laws state (as_variable t))
+    → IsVariableAt (text_of laws) bytes place
+unfolding before
+wrong_variable laws bytes rest next behind t state place h k s p u some =
+    let b = before laws bytes rest next state place h k p in
+    record { before = b.0; after = behind; is_next = subst (λ x. StartsWith x Unknown behind) (sym b.1) (subst (λ x. StartsWith next x behind) u s); viable = go (step laws state (Variable 0)) refl (subst (λ x. IsSome (step laws state (as_variable x))) u some) }
+  where
+    go : (o : Option State) → step laws state (Variable 0) ≡ o → IsSome o → IsViable (text_of laws) (h.0 ++ Variable 0 ∷ [])
+    go None e i = absurd (cc)
+    go (Some after) e i = viable laws (h.0 ++ Variable 0 ∷ []) after (run_more laws h.0 (Variable 0) state after h.2 e)
+
+some_same : {A X : Type 0} (a : A) → None ≡ Some a → X
+some_same a e = absurd (cc)
+
+same_some : {A : Type 0} (a b : A) → Some a ≡ Some b → a ≡ b
+same_some a b e = cc
+
+whole_stand : (t : Tree) (stand : Stand) → IsStand stand t → side_in [] stand ≡ Some t
+whole_stand t stand (inl e) = ap (side_in []) e
+whole_stand t stand (inr e) = ap (side_in []) e
+
+-- the state behind a text's tokens has its parts
+term_parts : (ts : List Token) (state : State) (t : Tree) → run false start ts ≡ Some state → IsSide ts t → side_in state.open_parts state.stand ≡ Some t
+term_parts ts state t h s =
+    let i = term_run ts t s in
+    let e = same_some state (at None [] i.0) (sym h ∙ i.2) in
+    ap (λ (x : State). side_in x.open_parts x.stand) e ∙ whole_stand t i.0 i.1
+
+law_parts : (ts : List Token) (state : State) (law : Equation) → run true start ts ≡ Some state → IsLaw ts law → (state.left ≡ Some law.left) × (side_in state.open_parts state.stand ≡ Some law.right)
+law_parts ts state law h s =
+    let i = law_run ts law s in
+    let e = same_some state (at (Some law.left) [] i.0) (sym h ∙ i.2) in
+    (ap (λ (x : State). x.left) e, ap (λ (x : State). side_in x.open_parts x.stand) e ∙ whole_stand law.right i.0 i.1)
+
+ended : (laws : Bool) (bytes : List ℕ) (state : State) (end : ℕ) → (h : HasReadAll laws bytes state end) → (text_of laws h.2.0 → ⊥) → IsSyntaxAt (text_of laws) bytes end
+ended laws bytes state end (rest, a, (ts, b, r), p) not_text =
+    inr (inr (record { before = record { tokens = ts; blanks = []; rest = rest; tokens_begin = b; viable = viable laws ts state r; are_blanks = tt; place = p }; behind_token = refl; end = a; no_text = not_text }))
+
+pub term_ended : (bytes : List ℕ) (state : State) (end : ℕ) → HasReadAll false bytes state end → side_in state.open_parts state.stand ≡ None → IsSyntaxAt IsTermText bytes end
+term_ended bytes state end h e = ended false bytes state end h (λ (t, s). some_same t (sym e ∙ term_parts h.2.0 state t h.2.2 s))
+
+pub law_ended : (bytes : List ℕ) (state : State) (end : ℕ) → HasReadAll true bytes state end → (state.left ≡ None) ⊎ (side_in state.open_parts state.stand ≡ None) → IsSyntaxAt IsLawText bytes end
+law_ended bytes state end h (inl e) = ended true bytes state end h (λ (law, s). some_same law.left (sym e ∙ (law_parts h.2.0 state law h.2.2 s).0))
+law_ended bytes state end h (inr e) = ended true bytes state end h (λ (law, s). some_same law.right (sym e ∙ (law_parts h.2.0 state law h.2.2 s).1))
+
+-- what was read is spelled
+pub term_spelled : (bytes : List ℕ) (state : State) (end : ℕ) (t : Tree) → HasReadAll false bytes state end → side_in state.open_parts state.stand ≡ Some t → SpellsTerm bytes t
+term_spelled bytes state end t (rest, a, (ts, b, r), p) e = (ts, (rest, b, a), term_read ts state t r e)
+
+pub law_spelled : (bytes : List ℕ) (state : State) (end : ℕ) (l t : Tree) → HasReadAll true bytes state end → state.left ≡ Some l → side_in state.open_parts state.stand ≡ Some t → SpellsLaw bytes (record { left = l; right = t })
+law_spelled bytes state end l t (rest, a, (ts, b, r), p) d e = (ts, (rest, b, a), law_read ts state l t r d e)
+
+-- leaves are tokens
+mutual
+  atom_leaves : (ts : List Token) (t : Tree) → IsAtom ts t → leaves t ≤ length ts
+  atom_leaves _ _ (variable v) = omega arith
+  atom_leaves _ _ (enclosed ts t s) = omega (arith, side_leaves ts t s, length-append ts (Closing ∷ []))
+
+  side_leaves : (ts : List Token) (t : Tree) → IsSide ts t → leaves t ≤ length ts
+  side_leaves _ _ (alone ts t a) = atom_leaves ts t a
+  side_leaves _ _ (joined ls l rs r a b) = omega (arith, atom_leaves ls l a, atom_leaves rs r b, length-append ls (Operator ∷ rs))
+
+pub term_leaves : (bytes : List ℕ) (t : Tree) → SpellsTerm bytes t → leaves t ≤ length bytes
+term_leaves bytes t (ts, (rest, b, a), s) = omega (arith, side_leaves ts t s, begins_length bytes ts rest b)
+
+pub law_leaves : (bytes : List ℕ) (law : Equation) → SpellsLaw bytes law → (leaves law.left ≤ length bytes) × (leaves law.right ≤ length bytes)
+law_leaves bytes law (ts, (rest, b, a), (ls, rs, e, l, r)) =
+    let n = begins_length bytes ts rest b in
+    let m = length-append ls (Equals ∷ rs) in
+    let k = ap length e in
+    (omega (arith, side_leaves ls law.left l), omega (arith, side_leaves rs law.right r))
+
+-- a text has one list of tokens
+none_token : {X : Type 0} (t : Token) (r : List ℕ) → ◌≡◌ {A = Option (Token × List ℕ)} None (Some (t, r)) → X
+none_token t r e = absurd (cc)
+
+nothing_left : (bytes : List ℕ) (vs : List Token) (rest : List ℕ) → AreBlanks bytes → Begins bytes vs rest → vs ≡ []
+nothing_left bytes [] rest a b = refl
+nothing_left bytes (v ∷ vs) rest a b = none_token v b.2 (sym (ap token_at (all_skipped bytes a)) ∙ first_read bytes v vs rest b)
+
+pub same_tokens : (bytes : List ℕ) (ts us : List Token) → AreTokens bytes ts → AreTokens bytes us → ts ≡ us
+same_tokens bytes ts us (r, b, a) (s, c, d) =
+    let i = front_of_all bytes ts us r s b c d in
+    sym (i.1 ∙ (ap (λ x. ts ++ x) (nothing_left r i.0 s a i.2) ∙ append-nil ts))
+
+pub same_term : (bytes : List ℕ) (t u : Tree) → SpellsTerm bytes t → SpellsTerm bytes u → t ≡ u
+same_term bytes t u (ts, b, s) (us, c, k) =
+    let e = same_tokens bytes us ts c b in
+    let i = text_run false ts (t, s) in
+    same_some t u (sym (term_parts ts i.0 t i.1 s) ∙ term_parts ts i.0 u i.1 (subst (λ x. IsSide x u) e k))
+
+pub same_law : (bytes : List ℕ) (p q : Equation) → SpellsLaw bytes p → SpellsLaw bytes q → p ≡ q
+same_law bytes p q (ts, b, s) (us, c, k) =
+    let e = same_tokens bytes us ts c b in
+    let i = text_run true ts (p, s) in
+    let x = law_parts ts i.0 p i.1 s in
+    let y = law_parts ts i.0 q i.1 (subst (λ x. IsLaw x q) e k) in
+    ap₂ (λ l r. record { left = l; right = r }) (same_some p.left q.left (sym x.0 ∙ y.0)) (same_some p.right q.right (sym x.1 ∙ y.1))
+
+-- a text of the grammar isn't refused
+no_unknown : (laws : Bool) (ts vs : List Token) → text_of laws (ts ++ Unknown ∷ vs) → ⊥
+no_unknown laws ts vs w =
+    let i = text_run laws (ts ++ Unknown ∷ vs) w in
+    go (run laws start ts) i.0 (sym (run_append laws start ts (Unknown ∷ vs)) ∙ i.1)
+  where
+    go : (o : Option State) (last : State) → option_and_then (λ n. run laws n (Unknown ∷ vs)) o ≡ Some last → ⊥
+    go None last e = some_same last e
+    go (Some state) last e = some_same last (sym (ap (option_and_then (λ n. run laws n vs)) (step_unknown laws state)) ∙ e)
+
+next_token : (laws : Bool) (bytes : List ℕ) (place : ℕ) (us : List Token) → AreTokens bytes us → (b : Before (text_of laws) bytes place) (t : Token) (after : List ℕ) → StartsWith b.rest t after
+    → (vs : List Token) × (us ≡ b.tokens ++ t ∷ vs)
+next_token laws bytes place us (r, c, d) b t after s =
+    let i = front_of_all bytes b.tokens us (b.blanks ++ b.rest) r b.tokens_begin c d in
+    let k = token_read b.rest t after s in
+    let e : token_at (skip_blanks (b.blanks ++ b.rest)) ≡ Some (t, after) = ap token_at (skipped b.blanks b.rest b.are_blanks ∙ start_kept b.rest t after k) ∙ k in
+    go i.0 i.2 i.1 e
+  where
+    go : (vs : List Token) → Begins (b.blanks ++ b.rest) vs r → us ≡ b.tokens ++ vs → token_at (skip_blanks (b.blanks ++ b.rest)) ≡ Some (t, after) → (ws : List Token) × (us ≡ b.tokens ++ t ∷ ws)
+    go [] g e h = none_token t after (sym (ap token_at (ap skip_blanks g ∙ all_skipped r d)) ∙ h)
+    go (v ∷ vs) g e h =
+        let p = some_pair_parts v t g.2 after (sym (first_read (b.blanks ++ b.rest) v vs r g) ∙ h) in
+        (vs, e ∙ ap (λ x. b.tokens ++ x ∷ vs) p.0)
+
+known_viable : (laws : Bool) (ts : List Token) (t : Token) (vs : List Token) → text_of laws (ts ++ t ∷ vs) → IsViable (text_of laws) (ts ++ as_variable t ∷ [])
+known_viable laws ts t vs w = go t w
+  where
+    kept : (u : Token) → text_of laws (ts ++ u ∷ vs) → IsViable (text_of laws) (ts ++ u ∷ [])
+    kept u w = (vs, subst (text_of laws) (sym (append_assoc ts (u ∷ []) vs)) w)
+
+    go : (u : Token) → text_of laws (ts ++ u ∷ vs) → IsViable (text_of laws) (ts ++ as_variable u ∷ [])
+    go Opening w = kept Opening w
+    go Closing w = kept Closing w
+    go Equals w = kept Equals w
+    go Operator w = kept Operator w
+    go (Variable v) w = kept (Variable v) w
+    go Unknown w = absurd (no_unknown laws ts vs w)
+
+pub text_not_syntax : (laws : Bool) (bytes : List ℕ) (us : List Token) (place : ℕ) → AreTokens bytes us → text_of laws us → IsSyntaxAt (text_of laws) bytes place → ⊥
+text_not_syntax laws bytes us place a w (inl n) =
+    let i = next_token laws bytes place us a n.before n.token n.after n.is_next in
+    n.unviable (known_viable laws n.before.tokens n.token i.0 (subst (text_of laws) i.1 w))
+text_not_syntax laws bytes us place (r, c, d) w (inr (inl n)) =
+    let b = n.before in
+    let i = front_of_all bytes b.tokens us (b.blanks ++ b.rest) r b.tokens_begin c d in
+    let e : skip_blanks (b.blanks ++ b.rest) ≡ b.rest = skipped b.blanks b.rest b.are_blanks ∙ (ap skip_blanks n.is_next ∙ (cond-false _ _ _ n.no_blank ∙ sym n.is_next)) in
+    go i.0 i.2 e
+  where
+    some_byte : n.before.rest ≡ [] → ⊥
+    some_byte e = let q : n.byte ∷ n.more ≡ [] = sym n.is_next ∙ e in absurd (cc)
+
+    go : (vs : List Token) → Begins (n.before.blanks ++ n.before.rest) vs r → skip_blanks (n.before.blanks ++ n.before.rest) ≡ n.before.rest → ⊥
+    go [] g e = some_byte (sym e ∙ (ap skip_blanks g ∙ all_skipped r d))
+    go (v ∷ vs) g e = n.no_token v g.2 (token_found n.before.rest v g.2 (sym (ap token_at e) ∙ first_read (n.before.blanks ++ n.before.rest) v vs r g))
+text_not_syntax laws bytes us place (r, c, d) w (inr (inr n)) =
+    let b = n.before in
+    let i = front_of_all bytes b.tokens us (b.blanks ++ b.rest) r b.tokens_begin c d in
+    let e : i.0 ≡ [] = nothing i.0 i.2 in
+    n.no_text (subst (text_of laws) (i.1 ∙ (ap (λ x. b.tokens ++ x) e ∙ append-nil b.tokens)) w)
+  where
+    nothing : (vs : List Token) → Begins (n.before.blanks ++ n.before.rest) vs r → vs ≡ []
+    nothing vs g = nothing_left (n.before.blanks ++ n.before.rest) vs r (subst AreBlanks (ap (λ x. x ++ n.before.rest) (sym n.behind_token)) n.end) g
+
+pub text_not_variable : (laws : Bool) (bytes : List ℕ) (us : List Token) (place : ℕ) → AreTokens bytes us → text_of laws us → IsVariableAt (text_of laws) bytes place → ⊥
+text_not_variable laws bytes us place a w n =
+    let i = next_token laws bytes place us a n.before Unknown n.after n.is_next in
+    no_unknown laws n.before.tokens i.0 (subst (text_of laws) i.1 w)
+
+-- what the loop over a text keeps and answers
+pub read_length : (laws : Bool) (bytes rest : List ℕ) (state : State) → HasRead laws bytes rest state → length rest ≤ length bytes
+read_length laws bytes rest state (ts, b, r) = omega (arith, begins_length bytes ts rest b)
+
+pub skip_length : (bytes : List ℕ) → length (skip_blanks bytes) ≤ length bytes
+skip_length bytes = let s = skips bytes in omega (arith, ap length s.2, length-append s.0 (skip_blanks bytes))
+
+skipped_to : (rest next : List ℕ) → next ≡ skip_blanks rest → Skipped rest next
+skipped_to rest next e = subst (Skipped rest) (sym e) (skips rest)
+
+pub only_blanks : (rest next : List ℕ) → next ≡ skip_blanks rest → length next ≡ 0 → AreBlanks rest
+only_blanks rest [] e l = let s = skipped_to rest [] e in subst AreBlanks (sym (s.2 ∙ append-nil s.0)) s.1
+only_blanks rest (b ∷ bs) e l = absurd (omega arith)
+
+pub stops_at_byte : (laws : Bool) (bytes rest next : List ℕ) (state : State) (place : ℕ)
+    → HasRead laws bytes rest state → next ≡ skip_blanks rest → (length next ≡ 0 → ⊥) → place + length next ≡ length bytes → token_at next ≡ None → IsSyntaxAt (text_of laws) bytes place
+stops_at_byte laws bytes rest [] state place h e l p n = absurd (l refl)
+stops_at_byte laws bytes rest (b ∷ bs) state place h e l p n =
+    no_token_there laws bytes rest (b ∷ bs) state place b bs h (skipped_to rest (b ∷ bs) e) p refl (no_blank rest b bs (sym e)) n
+
+pub stops_at_token : (laws : Bool) (bytes rest next behind : List ℕ) (t : Token) (state : State) (place : ℕ) (error : TextRefusal)
+    → HasRead laws bytes rest state → next ≡ skip_blanks rest → place + length next ≡ length bytes → token_at next ≡ Some (t, behind)
+    → Takes (step laws state t) (step laws state (as_variable t)) t place (Err error) → RefusesText (text_of laws) bytes error
+stops_at_token laws bytes rest next behind t state place (Syntax there) h e p f k =
+    subst (IsSyntaxAt (text_of laws) bytes) (sym k.0) (no_place laws bytes rest next behind t state place h (skipped_to rest next e) (token_found next t behind f) p k.1)
+stops_at_token laws bytes rest next behind t state place (WrongVariable there) h e p f k =
+    subst (IsVariableAt (text_of laws) bytes) (sym k.0) (wrong_variable laws bytes rest next behind t state place h (skipped_to rest next e) (token_found next t behind f) p k.1 k.2)
+stops_at_token laws bytes rest next behind t state place (TooLarge count) h e p f k = k
+stops_at_token laws bytes rest next behind t state place NoMemory h e p f k = tt
+
+pub goes_on : (laws : Bool) (bytes rest next behind : List ℕ) (t : Token) (state after : State)
+    → HasRead laws bytes rest state → next ≡ skip_blanks rest → token_at next ≡ Some (t, behind) → step laws state t ≡ Some after → HasRead laws bytes behind after
+goes_on laws bytes rest next behind t state after h e f k = reads_on laws bytes rest next behind t state after h (skipped_to rest next e) (token_found next t behind f) k
+
+pub goes_down : (rest next behind : List ℕ) (t : Token) → next ≡ skip_blanks rest → token_at next ≡ Some (t, behind) → length behind < length rest
+goes_down rest next behind t e f = omega (arith, start_longer next t behind (token_found next t behind f), skip_length rest, ap length e)
+
+-- a refusal of the tokens is one of the text
+pub term_refused : (bytes : List ℕ) (e : TextRefusal) → RefusesText IsTermText bytes e → RefusesTerm bytes e
+term_refused bytes (Syntax at) h = h
+term_refused bytes (WrongVariable at) h = h
+term_refused bytes (TooLarge count) h = absurd h
+term_refused bytes NoMemory h = tt
+
+pub law_refused : (bytes : List ℕ) (e : TextRefusal) → RefusesText IsLawText bytes e → RefusesLaw bytes e
+law_refused bytes (Syntax at) h = h
+law_refused bytes (WrongVariable at) h = h
+law_refused bytes (TooLarge count) h = absurd h
+law_refused bytes NoMemory h = tt
+
+-- what is spelled with few leaves is refused for memory alone
+pub term_refused_only : (bytes : List ℕ) (e : TextRefusal) → RefusesTerm bytes e → (t : Tree) → SpellsTerm bytes t → leaves t ≤ side_limit → e ≡ NoMemory
+term_refused_only bytes (Syntax at) h t (ts, a, s) few = absurd (text_not_syntax false bytes ts at a (t, s) h)
+term_refused_only bytes (WrongVariable at) h t (ts, a, s) few = absurd (text_not_variable false bytes ts at a (t, s) h)
+term_refused_only bytes (TooLarge count) (u, k, many, e) t s few = absurd (omega (arith, ap leaves (same_term bytes t u s k)))
+term_refused_only bytes NoMemory h t s few = refl
+
+pub law_refused_only : (bytes : List ℕ) (e : TextRefusal) → RefusesLaw bytes e → (law : Equation) → SpellsLaw bytes law → leaves law.left ≤ side_limit → leaves law.right ≤ side_limit → e ≡ NoMemory
+law_refused_only bytes (Syntax at) h law (ts, a, s) l r = absurd (text_not_syntax true bytes ts at a (law, s) h)
+law_refused_only bytes (WrongVariable at) h law (ts, a, s) l r = absurd (text_not_variable true bytes ts at a (law, s) h)
+law_refused_only bytes (TooLarge count) (other, k, inl (many, e)) law s l r = absurd (omega (arith, ap (λ (x : Equation). leaves x.left) (same_law bytes law other s k)))
+law_refused_only bytes (TooLarge count) (other, k, inr (few, many, e)) law s l r = absurd (omega (arith, ap (λ (x : Equation). leaves x.right) (same_law bytes law other s k)))
+law_refused_only bytes NoMemory h law s l r = refl

@@ -1,0 +1,6 @@
+pub mod Names
+pub mod Lexing
+pub mod Running
+pub mod Reaching
+pub mod Answering
+pub mod Writing

@@ -1,0 +1,13 @@
+use Rattle.etp_text.proofs.Answering.{same_term, same_law, term_refused_only, law_refused_only}
+use Rattle.etp_text.proofs.Writing.{written_term_spells, written_law_spells}
+use Rattle.etp_text.proofs.text_laws.Goals as goal
+
+pub returns : goal.returns
+returns c = record {
+  one_term = same_term;
+  one_law = same_law;
+  written_term_spells = written_term_spells;
+  written_law_spells = written_law_spells;
+  term_stands = λ bytes t e s few r. term_refused_only bytes e r t s few;
+  law_stands = λ bytes law e s left right r. law_refused_only bytes e r law s left right;
+}
