@@ -1,0 +1,4 @@
+pub mod Bindings
+pub mod Matching
+pub mod Fitting
+pub mod Replacing

@@ -1,0 +1,13 @@
+//! Substitutions, matching of a pattern onto a term, and replacement at a position.
+#![tactic(auto)]
+
+mod matching;
+mod replacing;
+mod subst;
+
+pub use matching::{Matched, match_onto};
+pub use replacing::replace_at;
+pub use subst::{Binding, Subst};
+
+#[cfg(test)]
+mod tests;
