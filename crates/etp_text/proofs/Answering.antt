@@ -145,7 +145,7 @@ same_law bytes p q (ts, b, s) (us, c, k) =
     ap₂ (λ l r. record { left = l; right = r }) (same_some p.left q.left (sym x.0 ∙ y.0)) (same_some p.right q.right (sym x.1 ∙ y.1))
 
 -- a text of the grammar isn't refused
-no_unknown : (laws : Bool) (ts vs : List Token) → text_of laws (ts ++ Unknown ∷ vs) → ⊥
+pub no_unknown : (laws : Bool) (ts vs : List Token) → text_of laws (ts ++ Unknown ∷ vs) → ⊥
 no_unknown laws ts vs w =
     let i = text_run laws (ts ++ Unknown ∷ vs) w in
     go (run laws start ts) i.0 (sym (run_append laws start ts (Unknown ∷ vs)) ∙ i.1)
@@ -168,7 +168,7 @@ next_token laws bytes place us (r, c, d) b t after s =
         let p = some_pair_parts v t g.2 after (sym (first_read (b.blanks ++ b.rest) v vs r g) ∙ h) in
         (vs, e ∙ ap (λ x. b.tokens ++ x ∷ vs) p.0)
 
-known_viable : (laws : Bool) (ts : List Token) (t : Token) (vs : List Token) → text_of laws (ts ++ t ∷ vs) → IsViable (text_of laws) (ts ++ as_variable t ∷ [])
+pub known_viable : (laws : Bool) (ts : List Token) (t : Token) (vs : List Token) → text_of laws (ts ++ t ∷ vs) → IsViable (text_of laws) (ts ++ as_variable t ∷ [])
 known_viable laws ts t vs w = go t w
   where
     kept : (u : Token) → text_of laws (ts ++ u ∷ vs) → IsViable (text_of laws) (ts ++ u ∷ [])

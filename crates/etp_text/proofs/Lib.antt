@@ -4,3 +4,4 @@ pub mod Running
 pub mod Reaching
 pub mod Answering
 pub mod Writing
+pub mod OneRefusal

@@ -1,5 +1,5 @@
 -- What ties texts, spellings and refusals together.
-use Rattle.std.specs.Prelude.{ℕ, List, ◌≡◌, ◌≤◌}
+use Rattle.std.specs.Prelude.{ℕ, List, ◌≡◌, ◌≢◌, ◌≤◌}
 use Rattle.etp_theory.specs.Trees.{Tree, Equation, bound, leaves}
 use Rattle.etp_text.specs.Written.{written_term, written_law}
 use Rattle.etp_text.specs.Grammar.{SpellsTerm, SpellsLaw}
@@ -19,3 +19,8 @@ pub record TextLaws : Type 0 where
       → SpellsTerm bytes t → leaves t ≤ side_limit → RefusesTerm bytes e → e ≡ NoMemory
   pub law_stands : (bytes : List ℕ) (law : Equation) (e : TextRefusal) → SpellsLaw bytes law
       → leaves law.left ≤ side_limit → leaves law.right ≤ side_limit → RefusesLaw bytes e → e ≡ NoMemory
+  -- and what has a refusal has one, but for want of memory
+  pub one_term_refusal : (bytes : List ℕ) (d e : TextRefusal)
+      → RefusesTerm bytes d → RefusesTerm bytes e → d ≢ NoMemory → e ≢ NoMemory → d ≡ e
+  pub one_law_refusal : (bytes : List ℕ) (d e : TextRefusal)
+      → RefusesLaw bytes d → RefusesLaw bytes e → d ≢ NoMemory → e ≢ NoMemory → d ≡ e
