@@ -14,7 +14,7 @@ use Rattle.etp_io.specs.Answers.{Fits, GivesLines, PartGives, to_come, says}
 use Rattle.etp_io.specs.declared.lines.Next.{Next}
 use Rattle.etp_io.specs.declared.lines.Next.TheVariants.{Line, Long, End}
 use Rattle.etp_io.proofs.Laws.{Appends-then, Appends-none, IsPrefix-all, Loses-then, Loses-none, lines_of-append}
-use Rattle.etp_session.specs.Commands.{asked}
+use Rattle.etp_session.specs.Requests.{asked}
 use Rattle.etp_session.specs.Replies.{State, unopened, reply_text, is_refusal}
 use Rattle.etp_session.specs.Sessions.{Item, Session, IsSession, Begins, items_from, items_of}
 use Rattle.etp_session.specs.Given.{line_text, GivesReply, WritesReply, WritesNothing, WritesSome}

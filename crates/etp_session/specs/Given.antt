@@ -7,10 +7,10 @@ use Rattle.etp_io.specs.declared.lines.Next.TheVariants.{Line, Long, End}
 use Rattle.etp_io.specs.Stream.{IsPrefix}
 use Rattle.etp_io.specs.Texts.{LineText, whole, too_long}
 use Rattle.etp_theory.specs.Trees.{Equation}
-use Rattle.etp_session.specs.declared.command.Command.{Command}
+use Rattle.etp_session.specs.Requests.{Request}
 use Rattle.etp_session.specs.declared.serving.Ending.{Ending}
 use Rattle.etp_session.specs.declared.serving.Ending.TheVariants.{Done, ReadFault, WriteFault, NoMemory, TooMuch}
-use Rattle.etp_session.specs.Replies.{Reply, reply_text, is_refusal, Answers, State, Replies}
+use Rattle.etp_session.specs.Replies.{Reply, reply_text, is_refusal, NumberedReply, Answers, State, Replies}
 
 -- the line that was read
 abbrev pub line_text : Next → List ℕ → LineText
@@ -18,38 +18,38 @@ line_text Line line = whole line
 line_text Long line = too_long
 line_text End line = too_long
 
--- a command's reply has this text, where these are the laws of the session
-pub record GivesAnswer (laws : List Equation) (command : Command) (number : ℕ) (text : List ℕ) (refused : Bool) : Type 0 where
+-- a request's reply has this text, where these are the laws of at most k operations
+pub record GivesAnswer (k : ℕ) (laws : List Equation) (request : Request) (number : ℕ) (text : List ℕ) (refused : Bool) : Type 0 where
   pub reply : Reply
-  pub answers : Answers laws command reply
+  pub answers : Answers k laws request reply
   pub text_is : text ≡ reply_text number reply
   pub refused_is : refused ≡ is_refusal reply
 
--- a command's reply has this text, from one state to another
-pub record GivesReply (before : State) (command : Command) (number : ℕ) (text : List ℕ) (refused : Bool) (after : State) : Type 0 where
+-- a request's reply has this text, from one state to another
+pub record GivesReply (before : State) (request : Request) (number : ℕ) (text : List ℕ) (refused : Bool) (after : State) : Type 0 where
   pub reply : Reply
-  pub replies : Replies before command reply after
+  pub replies : Replies before request reply after
   pub text_is : text ≡ reply_text number reply
   pub refused_is : refused ≡ is_refusal reply
 
 -- a reply was written
-pub record WritesReply (before : State) (command : Command) (number : ℕ) (took_before took_after : Option (List ℕ)) (refused : Bool) (after : State) : Type 0 where
+pub record WritesReply (before : State) (request : Request) (number : ℕ) (took_before took_after : Option (List ℕ)) (refused : Bool) (after : State) : Type 0 where
   pub text : List ℕ
   pub written : Appends took_before took_after text
-  pub gives : GivesReply before command number text refused after
+  pub gives : GivesReply before request number text refused after
 
 -- nothing of a reply was written
 pub record WritesNothing (took_before took_after : Option (List ℕ)) : Type 0 where
   pub written : Appends took_before took_after []
 
 -- a prefix of a reply was written
-pub record WritesSome (before : State) (command : Command) (number : ℕ) (took_before took_after : Option (List ℕ)) : Type 0 where
+pub record WritesSome (before : State) (request : Request) (number : ℕ) (took_before took_after : Option (List ℕ)) : Type 0 where
   pub text : List ℕ
   pub front : List ℕ
   pub refused : Bool
   pub after : State
   pub written : Appends took_before took_after front
-  pub gives : GivesReply before command number text refused after
+  pub gives : GivesReply before request number text refused after
   pub prefix : IsPrefix front text
 
 abbrev pub status_of : Ending → ℕ
@@ -75,3 +75,10 @@ IsCut ReadFault P = Unit {0}
 IsCut WriteFault P = P
 IsCut NoMemory P = P
 IsCut TooMuch P = Unit {0}
+
+-- the reply to the number of a law has this text, where these are the laws of at most k operations
+pub record GivesNumbered (k : ℕ) (laws : List Equation) (p : Equation) (number : ℕ) (text : List ℕ) (refused : Bool) : Type 0 where
+  pub reply : Reply
+  pub replies : NumberedReply k laws p reply
+  pub text_is : text ≡ reply_text number reply
+  pub refused_is : refused ≡ is_refusal reply

@@ -1,5 +1,6 @@
 pub mod Words
 pub mod Numbers
+pub mod Requests
 pub mod Commands
 pub mod Replies
 pub mod Sessions
@@ -7,3 +8,4 @@ pub mod Ends
 pub mod Given
 pub mod Opened
 pub mod Arguments
+pub mod Listings

@@ -6,4 +6,4 @@ use Rattle.etp_session.specs.Replies.{State, unopened, over}
 
 abbrev pub state_of : Option LawList → State
 state_of None = unopened
-state_of (Some laws) = over laws.equations
+state_of (Some laws) = over laws.order laws.equations

@@ -2,7 +2,7 @@
 use Rattle.std.specs.Prelude.{◌≡◌, ℕ, ◌+◌, List, [], ◌∷◌, ◌++◌, Bool, false, ◌||◌}
 use Rattle.etp_io.specs.Texts.{LineText, lines_of}
 use Rattle.etp_io.specs.Stream.{IsPrefix}
-use Rattle.etp_session.specs.Commands.{asked}
+use Rattle.etp_session.specs.Requests.{asked}
 use Rattle.etp_session.specs.Replies.{State, unopened, Reply, reply_text, is_refusal, Replies}
 
 -- a line and its number, counted from 1

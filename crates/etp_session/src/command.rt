@@ -1,8 +1,9 @@
-ghost use Rattle.std.specs.Prelude.{◌≡◌, ◌≤◌, ◌<◌, ◌++◌, ◌∷◌, [], take, drop, length, MatchOption, None, Some, not, true, ◌⊎◌};
+ghost use Rattle.std.specs.Prelude.{ℕ, ◌≡◌, ◌≤◌, ◌<◌, ◌++◌, ◌∷◌, ◌⊎◌, [], take, drop, length, IfSome, MatchOption, None, Some, not, true};
 ghost use Rattle.std.specs.List.{list_any};
-ghost use Rattle.etp_session.specs.Words.{words_of, is_blank, goes_on};
+ghost use Rattle.etp_session.specs.Words.{words_of, is_blank, goes_on, skip_blanks, skip_word, behind_first};
 ghost use Rattle.etp_session.specs.Numbers.{number_of, is_digit};
-ghost use Rattle.etp_session.specs.Commands.{command_of, law_command, order_command, order_or_bad, operations_of, unbuilt, is_word};
+ghost use Rattle.etp_session.specs.Requests.{request_of, only_number, law_request, dual_request, order_request, number_request, unbuilt, is_word};
+ghost use Rattle.etp_session.specs.Commands.{request_from, operations_of, IsWithin};
 
 /// The order of a session: the most operations that its laws have, 4 or 5.
 #[derive(Clone, Copy, Debug, PartialEq, Eq)]
@@ -25,13 +26,15 @@ impl ListOrder {
 }
 
 /// What a line asks. A blank line and a comment ask nothing; a line of more than 4096 bytes is
-/// never looked at.
-#[derive(Clone, Copy, Debug, PartialEq, Eq)]
-pub enum Command {
+/// never looked at; the text of `number` is a part of the line.
+#[derive(Clone, Copy)]
+pub enum Command<'a> {
     Blank,
     Long,
     Order(ListOrder),
     Law(u32),
+    Number(&'a [u8]),
+    Dual(u32),
     NotBuilt,
     Bad,
 }
@@ -60,6 +63,8 @@ fn read_number(word: &[u8]) -> Option<u32>
 }
 
 fn skip_blanks(line: &[u8]) -> &[u8]
+    ensures value { result.now ≡ skip_blanks line.now }
+    ensures within { length result.now ≤ length line.now }
     ensures words { words_of result.now ≡ words_of line.now }
     ensures begins { 0 < length result.now → goes_on result.now ≡ true }
 {
@@ -77,6 +82,7 @@ fn word_end(line: &[u8]) -> usize
     requires begins { goes_on line.now ≡ true }
     ensures bound { result ≤ length line.now }
     ensures words { words_of line.now ≡ take result line.now ∷ words_of (drop result line.now) }
+    ensures rest { drop result line.now ≡ skip_word line.now }
 {
     for (i, byte) in line.iter().enumerate() {
         if is_blank(*byte) {
@@ -88,7 +94,9 @@ fn word_end(line: &[u8]) -> usize
 
 // The first word and what follows it.
 fn next_word(line: &[u8]) -> Option<(&[u8], &[u8])>
-    ensures { MatchOption result (words_of line.now ≡ []) (λ p. words_of line.now ≡ p.0.now ∷ words_of p.1.now) }
+    ensures words { MatchOption result (words_of line.now ≡ []) (λ p. words_of line.now ≡ p.0.now ∷ words_of p.1.now) }
+    ensures rest { IfSome result (λ p. p.1.now ≡ skip_word (skip_blanks line.now)) }
+    ensures within { IfSome result (λ p. length p.1.now ≤ length line.now) }
 {
     let line = skip_blanks(line);
     if line.is_empty() {
@@ -98,23 +106,40 @@ fn next_word(line: &[u8]) -> Option<(&[u8], &[u8])>
     Some((&line[..end], &line[end..]))
 }
 
-fn law_command(rest: &[u8]) -> Command
-    ensures { result ≡ law_command (words_of rest.now) }
+// The number that is the only word.
+fn only_number(rest: &[u8]) -> Option<u32>
+    ensures { result ≡ only_number (words_of rest.now) }
 {
-    let Some((number, rest)) = next_word(rest) else {
-        return Command::Bad;
-    };
+    let (number, rest) = next_word(rest)?;
     if next_word(rest).is_some() {
-        return Command::Bad;
+        return None;
     }
-    match read_number(number) {
+    read_number(number)
+}
+
+fn law_command(number: Option<u32>) -> Command<'static>
+    ensures request { request_from result ≡ law_request number }
+    ensures within { (most : ℕ) → IsWithin most result }
+{
+    match number {
         Some(n) => Command::Law(n),
         None => Command::Bad,
     }
 }
 
-fn order_or_bad(number: Option<u32>) -> Command
-    ensures { result ≡ order_or_bad number }
+fn dual_command(number: Option<u32>) -> Command<'static>
+    ensures request { request_from result ≡ dual_request number }
+    ensures within { (most : ℕ) → IsWithin most result }
+{
+    match number {
+        Some(n) => Command::Dual(n),
+        None => Command::Bad,
+    }
+}
+
+fn order_command(number: Option<u32>) -> Command<'static>
+    ensures request { request_from result ≡ order_request number }
+    ensures within { (most : ℕ) → IsWithin most result }
 {
     match number {
         Some(4) => Command::Order(ListOrder::Four),
@@ -123,16 +148,16 @@ fn order_or_bad(number: Option<u32>) -> Command
     }
 }
 
-fn order_command(rest: &[u8]) -> Command
-    ensures { result ≡ order_command (words_of rest.now) }
+fn number_command(rest: &[u8]) -> Command<'_>
+    ensures request { request_from result ≡ number_request (skip_blanks rest.now) }
+    ensures within { IsWithin (length rest.now) result }
 {
-    let Some((number, rest)) = next_word(rest) else {
-        return Command::Bad;
-    };
-    if next_word(rest).is_some() {
-        return Command::Bad;
+    let text = skip_blanks(rest);
+    if text.is_empty() {
+        Command::Bad
+    } else {
+        Command::Number(text)
     }
-    order_or_bad(read_number(number))
 }
 
 /// Whether the word is this one.
@@ -145,9 +170,7 @@ pub fn is(word: &[u8], name: &str) -> bool
 fn is_unbuilt(word: &[u8]) -> bool
     ensures { result ≡ list_any (is_word word.now) unbuilt }
 {
-    is(word, "number")
-        || is(word, "dual")
-        || is(word, "file")
+    is(word, "file")
         || is(word, "load")
         || is(word, "withdraw")
         || is(word, "ask")
@@ -163,8 +186,9 @@ fn is_unbuilt(word: &[u8]) -> bool
 }
 
 /// Reads what a line asks.
-pub fn read_command(line: &[u8]) -> Command
-    ensures { result ≡ command_of line.now }
+pub fn read_command(line: &[u8]) -> Command<'_>
+    ensures request { request_from result ≡ request_of line.now }
+    ensures within { IsWithin (length line.now) result }
 {
     let Some((word, rest)) = next_word(line) else {
         return Command::Blank;
@@ -173,10 +197,16 @@ pub fn read_command(line: &[u8]) -> Command
         return Command::Blank;
     }
     if is(word, "law") {
-        return law_command(rest);
+        return law_command(only_number(rest));
+    }
+    if is(word, "number") {
+        return number_command(rest);
+    }
+    if is(word, "dual") {
+        return dual_command(only_number(rest));
     }
     if is(word, "order") {
-        return order_command(rest);
+        return order_command(only_number(rest));
     }
     if is_unbuilt(word) {
         Command::NotBuilt

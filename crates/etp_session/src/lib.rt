@@ -2,13 +2,15 @@
 #![tactic(auto)]
 
 mod command;
+mod listing;
 mod reply;
 mod serving;
 mod top;
 
 pub use command::{Command, ListOrder};
+pub use listing::list_laws;
 pub use serving::{Ending, session};
-pub use top::{one_text, run, run_in_memory};
+pub use top::{Task, one_text, run, run_in_memory};
 
 #[cfg(test)]
 mod tests;

@@ -1,6 +1,7 @@
-ghost use Rattle.std.specs.Prelude.{◌≡◌, ◌++◌, [], ◌+◌, ◌-◌, ◌≤◌, ℕ, IfOk, IfErr, IsErrOf, true, false, ◌⊎◌, ◌||◌};
+ghost use Rattle.std.specs.Prelude.{◌≡◌, ◌++◌, [], ◌+◌, ◌-◌, ◌≤◌, ℕ, length, IfOk, IfErr, IsErrOf, true, false, ◌⊎◌, ◌||◌};
 ghost use Rattle.etp_io.specs.Causes.{Rose};
-ghost use Rattle.etp_session.specs.Commands.{asked};
+ghost use Rattle.etp_session.specs.Requests.{asked};
+ghost use Rattle.etp_session.specs.Commands.{request_from, IsWithin};
 ghost use Rattle.etp_session.specs.Given.{line_text, GivesReply, WritesReply, WritesNothing, WritesSome, IsDone, IsCut, status_of};
 ghost use Rattle.etp_session.specs.Opened.{state_of};
 ghost use Rattle.etp_session.specs.Ends.{EndsWell, WritesPrefix, WritesWholeLines, Takes, TakesWithin, StopsAtFault};
@@ -36,9 +37,11 @@ fn status(ending: Ending) -> u8
 }
 
 // What the line asks that was read.
-fn command_read(next: Next, lines: &Lines) -> Command
-    requires { next ≡ Next.End → ⊥ }
-    ensures { result ≡ asked (line_text next lines.now.line) }
+fn command_read(next: Next, lines: &Lines) -> Command<'_>
+    requires more { next ≡ Next.End → ⊥ }
+    requires short { length lines.now.line ≤ 4096 }
+    ensures request { request_from result ≡ asked (line_text next lines.now.line) }
+    ensures short { IsWithin 4096 result }
 {
     match next {
         Next::Line => read_command(lines.line()),
@@ -52,13 +55,14 @@ fn step<K: Sink>(
     alloc: Global,
     opened: &mut Option<Laws>,
     text: &mut Text,
-    command: Command,
+    command: Command<'_>,
     number: u64,
     sink: &mut K,
 ) -> Result<bool, Ending>
-    ensures ok { IfOk result (λ refused. WritesReply (state_of opened.old) command number (K.took sink.old) (K.took sink.new) refused (state_of opened.new)) }
+    requires { IsWithin 4096 command }
+    ensures ok { IfOk result (λ refused. WritesReply (state_of opened.old) (request_from command.entry) number (K.took sink.old) (K.took sink.new) refused (state_of opened.new)) }
     ensures memory { IsErrOf result Ending.NoMemory → WritesNothing (K.took sink.old) (K.took sink.new) }
-    ensures write { IsErrOf result Ending.WriteFault → WritesSome (state_of opened.old) command number (K.took sink.old) (K.took sink.new) }
+    ensures write { IsErrOf result Ending.WriteFault → WritesSome (state_of opened.old) (request_from command.entry) number (K.took sink.old) (K.took sink.new) }
     ensures cause { IsErrOf result Ending.WriteFault → Rose (K.faults sink.old) (K.faults sink.new) }
     ensures later { K.faults sink.old ≤ K.faults sink.new }
     ensures errors { IfErr result (λ e. (e ≡ Ending.NoMemory) ⊎ (e ≡ Ending.WriteFault)) }

@@ -1,5 +1,5 @@
 // Whole sessions over the forms in memory, however reads and writes are cut and wherever one fails.
-use crate::{run_in_memory, session};
+use crate::{ListOrder, list_laws, run_in_memory, session};
 use etp_io::{MemorySink, MemorySource, SureShelf};
 use std::alloc::{AllocError, Global};
 
@@ -140,4 +140,12 @@ fn a_session_in_memory_ends_well(rt: HostRuntime) {
     let bytes = Vec::from_slice(rt.alloc(), b"law 1\n").expect(&rt, "memory");
     let mut shelf = SureShelf::of(rt.alloc());
     assert!(rt; run_in_memory(rt.alloc(), &[], bytes, &mut shelf) == 0);
+}
+
+#[test]
+fn the_list_begins_with_the_first_laws(rt: HostRuntime) {
+    let failing = Vec::from_slice(rt.alloc(), &[2]).expect(&rt, "memory");
+    let mut sink = MemorySink::of(rt.alloc(), 10000, 30, failing).expect(&rt, "memory");
+    assert!(rt; list_laws(rt.alloc(), ListOrder::Four, &mut sink) == 4);
+    assert!(rt; sink.taken() == "1 x = x\n2 x = y\n3 x = x ◇ x\n".as_bytes());
 }

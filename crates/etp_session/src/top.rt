@@ -1,11 +1,14 @@
-ghost use Rattle.std.specs.Prelude.{◌≡◌, ◌+◌, ◌-◌, ◌≤◌, ◌↔◌, ◌⊎◌, ℕ, List, Bool, false, true, map, vec_len, Some, IfSome, length};
+ghost use Rattle.std.specs.Prelude.{◌≡◌, ◌∷◌, [], ◌+◌, ◌-◌, ◌≤◌, ◌↔◌, ◌⊎◌, ℕ, List, Bool, false, true, map, vec_len, Some, IfSome, length};
 ghost use Rattle.std.specs.String.{string_bytes};
 ghost use Rattle.etp_io.specs.Causes.{Rose};
-ghost use Rattle.etp_session.specs.Arguments.{asks_session};
+ghost use Rattle.etp_session.specs.Arguments.{task_of, IsTask};
+ghost use Rattle.etp_session.specs.Commands.{operations_of};
+ghost use Rattle.etp_session.specs.Listings.{ListsLaws};
 ghost use Rattle.etp_session.specs.Sessions.{IsSession};
 ghost use Rattle.etp_session.specs.Ends.{EndsWell, WritesPrefix, WritesWholeLines, Takes, TakesWithin, StopsAtFault};
 
-use crate::command::is;
+use crate::command::{ListOrder, is};
+use crate::listing::list_laws;
 use crate::serving::session;
 use etp_io::{Shelf, Sink, Source, SureShelf, SureSink, SureSource};
 use std::alloc::Global;
@@ -13,20 +16,51 @@ use std::alloc::Global;
 /// The most bytes of a source.
 const LIMIT: u64 = 134_217_728;
 
-fn asks_session(words: &[String]) -> bool
-    ensures { result ≡ asks_session (map string_bytes words.now) }
+/// What the words of the command line ask.
+#[derive(Clone, Copy, Debug, PartialEq, Eq)]
+pub enum Task {
+    Session,
+    Laws(ListOrder),
+    Unknown,
+}
+
+fn task_of(words: &[String]) -> Task
+    ensures { result ≡ task_of (map string_bytes words.now) }
 {
     match words {
-        [] => true,
-        [word] => is(word.as_bytes(), "session"),
-        _ => false,
+        [] => Task::Session,
+        [word] => task_of_word(word.as_bytes()),
+        [word, other] => task_of_words(word.as_bytes(), other.as_bytes()),
+        _ => Task::Unknown,
     }
+}
+
+fn task_of_word(word: &[u8]) -> Task
+    ensures { result ≡ task_of (word.now ∷ []) }
+{
+    if is(word, "session") {
+        return Task::Session;
+    }
+    if is(word, "laws") {
+        return Task::Laws(ListOrder::Four);
+    }
+    Task::Unknown
+}
+
+fn task_of_words(word: &[u8], other: &[u8]) -> Task
+    ensures { result ≡ task_of (word.now ∷ other.now ∷ []) }
+{
+    if is(word, "laws") && is(other, "5") {
+        return Task::Laws(ListOrder::Five);
+    }
+    Task::Unknown
 }
 
 /// Does what the words of the command line ask, and answers the status.
 ///
-/// The word `session`, or no word, asks for a session with a limit of 134217728 bytes. With any
-/// other words the status is 2, and nothing is read or written.
+/// The word `session`, or no word, asks for a session with a limit of 134217728 bytes; `laws` and
+/// `laws 5` ask for the list of the laws of at most four, or five, operations. With any other words
+/// the status is 2, and nothing is read or written.
 pub fn run<S: Source, K: Sink, H: Shelf>(
     alloc: Global,
     words: &[String],
@@ -34,34 +68,38 @@ pub fn run<S: Source, K: Sink, H: Shelf>(
     sink: &mut K,
     shelf: &mut H,
 ) -> u8
-    ensures words { result ≡ 2 ↔ (asks_session (map string_bytes words.now) ≡ false) }
+    ensures words { result ≡ 2 ↔ (task_of (map string_bytes words.now) ≡ Task.Unknown) }
     ensures untouched { result ≡ 2 → (source.new ≡ source.old) × (sink.new ≡ sink.old) × (shelf.new ≡ shelf.old) }
 
-    // At 0 and 1 the source was read to its end and the whole text was written.
-    ensures well { result ≡ 0 → EndsWell (S.left source.old) (S.left source.new) (K.took sink.old) (K.took sink.new) (S.last source.new) false }
+    // A session, at 0 and 1: the source was read to its end and the whole text was written.
+    ensures well { IsTask (map string_bytes words.now) Task.Session → result ≡ 0 → EndsWell (S.left source.old) (S.left source.new) (K.took sink.old) (K.took sink.new) (S.last source.new) false }
     ensures refused { result ≡ 1 → EndsWell (S.left source.old) (S.left source.new) (K.took sink.old) (K.took sink.new) (S.last source.new) true }
 
     // At 3 a read failed, and the lines that stand whole in the bytes taken were answered.
     ensures read { result ≡ 3 → Rose (S.faults source.old) (S.faults source.new) }
     ensures read_end { result ≡ 3 → StopsAtFault (S.left source.old) (S.left source.new) (K.took sink.old) (K.took sink.new) (S.given source.old) (S.given source.new) 134217728 }
 
-    // At 4 a write failed; at 4 and 5 a prefix of the text was written.
+    // At 4 a write failed; in a session a prefix of the text was written at 4 and 5.
     ensures write { result ≡ 4 → Rose (K.faults sink.old) (K.faults sink.new) }
-    ensures write_end { result ≡ 4 → WritesPrefix (S.left source.old) (K.took sink.old) (K.took sink.new) }
-    ensures memory_end { result ≡ 5 → WritesPrefix (S.left source.old) (K.took sink.old) (K.took sink.new) }
+    ensures write_end { IsTask (map string_bytes words.now) Task.Session → result ≡ 4 → WritesPrefix (S.left source.old) (K.took sink.old) (K.took sink.new) }
+    ensures memory_end { IsTask (map string_bytes words.now) Task.Session → result ≡ 5 → WritesPrefix (S.left source.old) (K.took sink.old) (K.took sink.new) }
 
     // At 6 one byte more than the limit was taken, and the lines that stand whole in the bytes before the last read were answered.
     ensures too_much { result ≡ 6 → Takes (S.left source.old) (S.left source.new) (S.given source.old) (S.given source.new) 134217729 }
     ensures too_much_end { result ≡ 6 → WritesWholeLines (S.left source.old) (K.took sink.old) (K.took sink.new) (134217729 - S.last source.new) }
-    ensures within { (result ≡ 6 → ⊥) → (result ≡ 2 → ⊥) → TakesWithin (S.left source.old) (S.left source.new) (S.given source.old) (S.given source.new) 134217728 }
+    ensures within { IsTask (map string_bytes words.now) Task.Session → (result ≡ 6 → ⊥) → TakesWithin (S.left source.old) (S.left source.new) (S.given source.old) (S.given source.new) 134217728 }
+
+    // The list of laws: at 0 all was written, at 4 and 5 a prefix, and nothing was read.
+    ensures laws { (order : ListOrder) → IsTask (map string_bytes words.now) (Task.Laws order) → ListsLaws (operations_of order) (K.took sink.old) (K.took sink.new) result }
+    ensures unread { (order : ListOrder) → IsTask (map string_bytes words.now) (Task.Laws order) → source.new ≡ source.old }
 
     ensures statuses { result ≤ 6 }
     ensures shelf { shelf.new ≡ shelf.old }
 {
-    if asks_session(words) {
-        session(alloc, LIMIT, source, sink, shelf)
-    } else {
-        2
+    match task_of(words) {
+        Task::Session => session(alloc, LIMIT, source, sink, shelf),
+        Task::Laws(order) => list_laws(alloc, order, sink),
+        Task::Unknown => 2,
     }
 }
 
@@ -74,7 +112,7 @@ pub fn one_text()
 /// Does what the words ask over forms in memory that never fail: a source of these bytes, and a
 /// sink that keeps nothing. The status is 0, 1 or 5.
 pub fn run_in_memory(alloc: Global, words: &[String], bytes: Vec<u8>, shelf: &mut SureShelf) -> u8
-    requires words { asks_session (map string_bytes words.now) ≡ true }
+    requires words { IsTask (map string_bytes words.now) Task.Session }
     requires within { vec_len bytes ≤ 134217728 }
     ensures { (result ≡ 0) ⊎ (result ≡ 1) ⊎ (result ≡ 5) }
 {

@@ -46,7 +46,7 @@ served-preserved g c =
       rw c.either-refused.ensures
           (running-then _ _ _ _ _ _ _ _ _ _ _ _ _ c.next.new.self _ c.in-Ok-step.also c.in-Ok-next.next _ _ c.served.invariant.0
           c.next.ensures.fits c.in-Ok-next.ensures.lines more c.in-Ok-next.ensures.number c.in-Ok-next.ensures.ok c.next.ensures.says c.next.ensures.limit
-          (omega (arith, c.number.ensures.counted)) c.next.ensures.taken c.next.ensures.loses c.next.ensures.given (rw (c.command_read-command.ensures, c.number.ensures.number) at c.in-Ok-step.ensures.ok)),
+          (omega (arith, c.number.ensures.counted)) c.next.ensures.taken c.next.ensures.loses c.next.ensures.given (rw (c.command_read-command.ensures.request, c.number.ensures.number) at c.in-Ok-step.ensures.ok)),
       omega (arith, c.served.invariant.1, c.next.ensures.later),
       omega (arith, c.served.invariant.2, c.step.ensures.later),
     )
@@ -57,7 +57,7 @@ returns-in-Err-clause-cut g c =
     elim c.in-Err.ensures.errors [
       | inl e ↦ rw e (ends-before_reply _ _ _ _ _ _ _ _ _ _ _ _ c.served.invariant.0 (c.in-Err.ensures.memory (ap Err e)))
       | inr e ↦ rw e (ends-in_reply _ _ _ _ _ _ _ _ _ _ _ c.next.new.self _ c.in-Ok-next.next _ c.served.invariant.0
-          c.in-Ok-next.ensures.lines more c.in-Ok-next.ensures.number (rw (c.command_read-command.ensures, c.number.ensures.number) at (c.in-Err.ensures.write (ap Err e))))
+          c.in-Ok-next.ensures.lines more c.in-Ok-next.ensures.number (rw (c.command_read-command.ensures.request, c.number.ensures.number) at (c.in-Err.ensures.write (ap Err e))))
     ]
 
 pub returns-in-Err-clause-within : goal.returns-in-Err-clause-within
