@@ -1,0 +1,4 @@
+pub mod Closures
+pub mod Tables
+pub mod Answers
+pub mod Facts

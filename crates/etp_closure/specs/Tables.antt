@@ -1,0 +1,65 @@
+-- What the loops over rows of reached and covered pairs keep.
+use Rattle.std.specs.Prelude.{◌≡◌, ℕ, ◌≤◌, ◌<◌, true, Bool, ◌&&◌, ◌||◌, ◌^◌, List, Contains, slice_index, length, Some, unwrap_or, if◌then◌else◌}
+use Rattle.etp_bits.specs.Bits.{Bits, bit}
+use Rattle.etp_theory.specs.Reach.{dual_number}
+use Rattle.etp_closure.specs.Closures.{slot_of, IsKept, IsOwnInverse}
+
+-- a row and a column for each of `count` laws, and no more
+pub record IsSquare (matrix : Bits) (count : ℕ) : Type 0 where
+  pub rows_are : matrix.rows ≡ count
+  pub columns_are : matrix.columns ≡ count
+  pub within : (row column : ℕ) → bit matrix row column ≡ true → (row < count) × (column < count)
+
+-- the three rows of marks
+pub record IsMarks (marks : Bits) (count : ℕ) : Type 0 where
+  pub rows_are : marks.rows ≡ 3
+  pub columns_are : marks.columns ≡ count
+
+-- each kept law has its place in the list as its slot
+pub record IsOneToOne (slots laws : List ℕ) : Type 0 where
+  pub slot_law : (slot : ℕ) → slot < length laws → slot_of slots (slice_index laws slot) ≡ Some slot
+  pub law_slot : (law slot : ℕ) → slot_of slots law ≡ Some slot → (slot < length laws) × (slice_index laws slot ≡ law)
+
+-- the covered pairs after an edge more, by the reached pairs and the covered pairs before
+abbrev pub covered_along : (ℕ → ℕ → Bool) → (ℕ → ℕ → Bool) → ℕ → ℕ → ℕ → ℕ → Bool
+covered_along r c a b x y = (c x y || (r b x && c a y)) || ((c x b || (r b x && c a b)) && r y a)
+
+-- the tables after one edge more: nothing changes where it was there already, else rows are joined
+pub data Links (r c new_r new_c : ℕ → ℕ → Bool) (a b : ℕ) : Type 0 where
+  already : r a b ≡ true → ((x y : ℕ) → new_r x y ≡ r x y) → ((x y : ℕ) → new_c x y ≡ c x y)
+      → Links r c new_r new_c a b
+  anew : ((x y : ℕ) → new_r x y ≡ (r x y || (r x a && r b y)))
+      → ((x y : ℕ) → new_c x y ≡ covered_along r c a b x y) → Links r c new_r new_c a b
+
+-- more laws have slots, and the slots that were there stay
+pub record Extends (old_slots old_laws new_slots new_laws : List ℕ) : Type 0 where
+  pub same_size : length new_slots ≡ length old_slots
+  pub more : length old_laws ≤ length new_laws
+  pub stays : (law slot : ℕ) → slot_of old_slots law ≡ Some slot → slot_of new_slots law ≡ Some slot
+  pub was_there : (law slot : ℕ) → slot_of new_slots law ≡ Some slot → slot < length old_laws
+      → slot_of old_slots law ≡ Some slot
+
+-- a law of the list, or the dual of one
+pub data IsNamed (duals laws : List ℕ) (law : ℕ) : Type 0 where
+  listed : Contains laws law → IsNamed duals laws law
+  dual_listed : (other : ℕ) → Contains laws other → law ≡ dual_number duals other → IsNamed duals laws law
+
+-- the row of a kept law
+abbrev pub row_of : List ℕ → ℕ → ℕ
+row_of slots law = unwrap_or (slot_of slots law) 0
+
+-- the law itself, or its dual
+abbrev pub image_of : List ℕ → Bool → ℕ → ℕ
+image_of duals dual law = if dual then dual_number duals law else law
+
+-- what a closure's fields keep
+pub record IsClosure (duals slots laws : List ℕ) (reached covered marks : Bits) : Type 0 where
+  pub own_inverse : IsOwnInverse duals
+  pub same_size : length slots ≡ length duals
+  pub paired : IsOneToOne slots laws
+  pub few : length laws < 2 ^ 32
+  pub many : length duals < 2 ^ 32
+  pub duals_kept : (law : ℕ) → IsKept slots law → IsKept slots (dual_number duals law)
+  pub reached_size : IsSquare reached (length laws)
+  pub covered_size : IsSquare covered (length laws)
+  pub marks_size : IsMarks marks (length laws)
