@@ -1,0 +1,7 @@
+pub mod Values
+pub mod Steps
+pub mod Lemmas
+pub mod Lines
+pub mod Names
+pub mod Replay
+pub mod Validity
