@@ -85,7 +85,7 @@ mod tests {
         let mut source = InputSource::new(Script { calls: 0 });
         let mut buf = [0; 8];
         assert!(rt; source.read(&mut buf) == Ok(3));
-        assert!(rt; buf[..3] == *b"abc".as_slice());
+        assert!(rt; buf[..3] == b"abc"[..]);
         assert!(rt; source.read(&mut buf) == Err(Failed));
         assert!(rt; source.read(&mut buf) == Ok(0));
         assert!(rt; source.faults == 1 && source.given == 3 && source.last == 0);
