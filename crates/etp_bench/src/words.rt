@@ -1,0 +1,40 @@
+// The words of the command line.
+use std::{env, io};
+
+/// How many facts are drawn.
+#[derive(Clone, Copy)]
+pub struct Sizes {
+    pub implications: u16,
+    pub refutations: u16,
+    /// The length of each of a refutation's two lists.
+    pub laws: u16,
+}
+
+impl Sizes {
+    /// How many laws are drawn for the lists of all refutations.
+    pub fn drawn_laws(self) -> u64 {
+        2 * self.refutations as u64 * self.laws as u64
+    }
+}
+
+/// The first three words, or 200, 3 and 200 for those that are missing. A word that is no number
+/// below 65536 is an error.
+pub fn read_sizes(rt: &HostRuntime) -> io::Result<Sizes> {
+    let mut words = env::args(rt)?.skip(1);
+    Ok(Sizes {
+        implications: number(words.next(), 200)?,
+        refutations: number(words.next(), 3)?,
+        laws: number(words.next(), 200)?,
+    })
+}
+
+// The number that a word spells, or another where there is no word.
+fn number(word: Option<String>, otherwise: u16) -> io::Result<u16> {
+    match word {
+        None => Ok(otherwise),
+        Some(word) => word
+            .as_str()
+            .parse::<u16>()
+            .map_err(|_| io::Error::from(io::ErrorKind::InvalidInput)),
+    }
+}
