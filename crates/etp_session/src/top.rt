@@ -110,11 +110,14 @@ pub fn one_text()
 {}
 
 /// Does what the words ask over forms in memory that never fail: a source of these bytes, and a
-/// sink that keeps nothing. The status is 0, 1 or 5.
+/// sink that keeps nothing. The status is 0, 1 or 5; 1 only where the text of the bytes has a
+/// refusal line, and 0 only where it has none.
 pub fn run_in_memory(alloc: Global, words: &[String], bytes: Vec<u8>, shelf: &mut SureShelf) -> u8
     requires words { IsTask (map string_bytes words.now) Task.Session }
     requires within { vec_len bytes ≤ 134217728 }
-    ensures { (result ≡ 0) ⊎ (result ≡ 1) ⊎ (result ≡ 5) }
+    ensures statuses { (result ≡ 0) ⊎ (result ≡ 1) ⊎ (result ≡ 5) }
+    ensures well { result ≡ 0 → (text : List ℕ) × IsSession bytes.items text false }
+    ensures refused { result ≡ 1 → (text : List ℕ) × IsSession bytes.items text true }
 {
     let mut source = SureSource::of(bytes);
     let mut sink = SureSink::of();
