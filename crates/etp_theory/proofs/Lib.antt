@@ -17,5 +17,9 @@ pub mod Convergent
 pub mod Renaming
 pub mod Rounds
 pub mod Passing
+pub mod Places
+pub mod General
+pub mod Ends
+pub mod Failing
 pub mod Reaching
 pub mod Examples

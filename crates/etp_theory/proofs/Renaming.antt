@@ -1,5 +1,5 @@
 -- A substitution that another one undoes changes no walk but by itself.
-use Rattle.std.proofs.Common.{◌≡◌, ℕ, zero, suc, ◌≤◌, cond, List, [], ◌∷◌, Option, Some, None, slice_get, refl, sym, ap, ap₂, ◌∙◌, subst, subst₂, arith}
+use Rattle.std.proofs.Common.{◌≡◌, ℕ, zero, suc, ◌≤◌, inl, inr, cond, List, [], ◌∷◌, Option, Some, None, slice_get, refl, sym, ap, ap₂, ◌∙◌, subst, subst₂, arith}
 use Rattle.etp_theory.specs.Trees.{Tree, var, op, leaves, Occurs, Equation}
 use Rattle.etp_theory.specs.Substitutions.{apply, then_apply, Partial, total, raise}
 use Rattle.etp_theory.specs.Positions.{put_at}
@@ -8,7 +8,8 @@ use Rattle.etp_theory.specs.Weights.{Weight, AllDecrease}
 use Rattle.etp_theory.specs.Strategy.{same, first_some, within, matcher, try_rule, try_rules, next, go_on, walk}
 use Rattle.etp_theory.specs.Overlaps.{Overlap, outer_part, inner_part, left_result, right_result}
 use Rattle.etp_theory.specs.Unifiers.{IsMostGeneralPartial}
-use Rattle.etp_theory.specs.Forms.{IsFormOf, HaveOneForm}
+use Rattle.etp_theory.specs.Forms.{IsFormOf, HaveOneForm, HasForm, PassesTermLimit, PassesStepLimit}
+use Rattle.etp_theory.specs.FailingOverlaps.{Finding, two_forms, term_limit, step_limit, IsFinding, finding_under}
 use Rattle.etp_theory.proofs.Trees.{composed, sub_at_applied, put_at_applied}
 use Rattle.etp_theory.proofs.Matching.{apply_agree, agree_of_apply, rule_some, rule_none, matcher_found, next_some}
 use Rattle.etp_theory.proofs.Overlaps.{kept_variables}
@@ -134,22 +135,65 @@ module _ (rules : List Equation) (kept : (i : ℕ) (e : Equation) → slice_get 
   forms_undone : (s t : Tree) → IsUndone k j s → IsUndone k j t → HaveOneForm rules s t → HaveOneForm rules (apply k s) (apply k t)
   forms_undone s t qs qt h = record { form = apply k h.form; of_left = form_undone s h.form qs h.of_left; of_right = form_undone t h.form qt h.of_right }
 
+  same_leaves : (t : Tree) → IsUndone k j t → leaves (apply k t) ≡ leaves t
+  same_leaves t u = omega (arith, leaves_grow k t, leaves_undone t u)
+
+  has_form_undone : (s : Tree) → IsUndone k j s → HasForm rules s → HasForm rules (apply k s)
+  has_form_undone s u f = (apply k f.0, form_undone s f.0 u f.1)
+
+  wide_undone : (s : Tree) → IsUndone k j s → PassesTermLimit rules s → PassesTermLimit rules (apply k s)
+  wide_undone s u p =
+      let r = walk_undone p.steps s u in
+      record { steps = p.steps; few = p.few; wide = omega (arith, ap leaves r.0, same_leaves (walk rules p.steps s) r.1, p.wide) }
+
+  none_within : (o : Option Tree) → within (apply k) o ≡ None → o ≡ None
+  none_within None h = refl
+  none_within (Some t) h = absurd (cc)
+
+  going_undone : (s : Tree) → IsUndone k j s → PassesStepLimit rules s → PassesStepLimit rules (apply k s)
+  going_undone s u p =
+      let r = walk_undone p.steps s u in
+      record {
+        steps = p.steps;
+        all = p.all;
+        narrow = λ n h. let x = walk_undone n s u in omega (arith, ap leaves x.0, same_leaves (walk rules n s) x.1, p.narrow n h);
+        going = λ h. p.going (none_within (next rules (walk rules p.steps s)) (sym (next_undone (walk rules p.steps s) r.1) ∙ ap (next rules) (sym r.0) ∙ h));
+      }
+
+  form_is_undone : (s u : Tree) → IsUndone k j s → IsFormOf rules s u → IsUndone k j u
+  form_is_undone s u q f = subst (IsUndone k j) f.reached (walk_undone f.steps s q).1
+
+  pub finding_undone : (s t : Tree) (f : Finding) → IsUndone k j s → IsUndone k j t → IsFinding rules s t f → IsFinding rules (apply k s) (apply k t) (finding_under k f)
+  finding_undone s t (two_forms u v) qs qt h =
+      (form_undone s u qs h.0, form_undone t v qt h.1, λ e. h.2 (sym (form_is_undone s u qs h.0) ∙ ap (apply j) e ∙ form_is_undone t v qt h.1))
+  finding_undone s t term_limit qs qt (inl p) = inl (wide_undone s qs p)
+  finding_undone s t term_limit qs qt (inr p) = inr (has_form_undone s qs p.0, wide_undone t qt p.1)
+  finding_undone s t step_limit qs qt (inl p) = inl (going_undone s qs p)
+  finding_undone s t step_limit qs qt (inr p) = inr (has_form_undone s qs p.0, going_undone t qt p.1)
+
+-- decreasing rules have no new variables
+pub all_kept : (w : Weight) (rules : List Equation) → AllDecrease w rules → (i : ℕ) (e : Equation) → slice_get rules i ≡ Some e → IsKept e
+all_kept w rules all i e q = kept_variables w e all.left_counts all.right_counts (all.each i e q)
+
+-- the right result where one unifier factors through another
+pub right_through : {rules : List Equation} (o : Overlap rules) (m k n : ℕ → Tree) → ((v : ℕ) → apply k (m v) ≡ n v) → apply k (right_result o m) ≡ right_result o n
+right_through o m k n h =
+    put_at_applied o.position k (apply m o.outer_rule.left) _ (apply m (raise o.inner_rule.right)) (sub_at_applied o.position m o.outer_rule.left _ o.part)
+    ∙ ap₂ (put_at o.position) (through m k n h o.outer_rule.left) (through m k n h (raise o.inner_rule.right))
+
+-- two unifiers that factor through each other agree
+pub both_ways : (w : Weight) (rules : List Equation) → AllDecrease w rules → (o : Overlap rules) (m m' k j : ℕ → Tree) → ((v : ℕ) → apply k (m v) ≡ m' v) → ((v : ℕ) → apply j (m' v) ≡ m v) →
+    HaveOneForm rules (left_result o m) (right_result o m) → HaveOneForm rules (left_result o m') (right_result o m')
+both_ways w rules all o m m' k j forth back h =
+    let l = through m k m' forth o.outer_rule.right in
+    let r = right_through o m k m' forth in
+    subst₂ (HaveOneForm rules) l r
+    (forms_undone rules (all_kept w rules all) k j (left_result o m) (right_result o m) (ap (apply j) l ∙ through m' j m back o.outer_rule.right) (ap (apply j) r ∙ right_through o m' j m back) h)
+
 -- two most general unifiers of one overlap agree
 pub unifiers_agree : (w : Weight) (rules : List Equation) → AllDecrease w rules → (o : Overlap rules) (m m' : Partial) → IsMostGeneralPartial m (outer_part o) (inner_part o) → IsMostGeneralPartial m' (outer_part o) (inner_part o) →
     HaveOneForm rules (left_result o (total m)) (right_result o (total m)) → HaveOneForm rules (left_result o (total m')) (right_result o (total m'))
 unifiers_agree w rules all o m m' g g' h =
     let f = g.factors m' g'.unifies in
     let b = g'.factors m g.unifies in
-    let k = total f.0 in
-    let j = total b.0 in
-    let forth = through (total m) k (total m') f.1 in
-    let back = through (total m') j (total m) b.1 in
-    let kept : (i : ℕ) (e : Equation) → slice_get rules i ≡ Some e → IsKept e = λ i e q. kept_variables w e all.left_counts all.right_counts (all.each i e q) in
-    let r : apply k (right_result o (total m)) ≡ right_result o (total m') =
-    put_at_applied o.position k (apply (total m) o.outer_rule.left) _ (apply (total m) (raise o.inner_rule.right)) (sub_at_applied o.position (total m) o.outer_rule.left _ o.part)
-    ∙ ap₂ (put_at o.position) (forth o.outer_rule.left) (forth (raise o.inner_rule.right)) in
-    let r' : apply j (right_result o (total m')) ≡ right_result o (total m) =
-    put_at_applied o.position j (apply (total m') o.outer_rule.left) _ (apply (total m') (raise o.inner_rule.right)) (sub_at_applied o.position (total m') o.outer_rule.left _ o.part)
-    ∙ ap₂ (put_at o.position) (back o.outer_rule.left) (back (raise o.inner_rule.right)) in
-    let l = forth o.outer_rule.right in
-    subst₂ (HaveOneForm rules) l r (forms_undone rules kept k j (left_result o (total m)) (right_result o (total m)) (ap (apply j) l ∙ back o.outer_rule.right) (ap (apply j) r ∙ r') h)
+    both_ways w rules all o (total m) (total m') (total f.0) (total b.0) f.1 b.1 h

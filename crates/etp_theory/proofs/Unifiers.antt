@@ -20,7 +20,7 @@ pub record Mgu (a b : Tree) : Type 0 where
 some_difference : {a b : Difference} → Some a ≡ Some b → a ≡ b
 some_difference e = cc
 
-eq_or_ne : (i j : ℕ) → (i ≡ j) ⊎ (i ≢ j)
+pub eq_or_ne : (i j : ℕ) → (i ≡ j) ⊎ (i ≢ j)
 eq_or_ne i j = grind arith
 
 -- the variables of an instance
@@ -242,7 +242,7 @@ single_inside xs x b hb h t ht v o = let r = instance_occurs (single x b) v t o 
     go z k true e o = without_in x v xs (hb v o) (λ q. h (subst (λ u. Occurs u b) q o))
     go z k false e o = without_in x v xs (ht v (subst (λ u. Occurs u t) o k)) (λ q. let f = eq-eqb z x (o ∙ q) in cc)
 
-occurs_dec : (x : ℕ) (t : Tree) → Occurs x t ⊎ (Occurs x t → ⊥)
+pub occurs_dec : (x : ℕ) (t : Tree) → Occurs x t ⊎ (Occurs x t → ⊥)
 occurs_dec x (var y) = eq_or_ne y x
 occurs_dec x (op a b) = go (occurs_dec x a) (occurs_dec x b)
   where

@@ -1,5 +1,5 @@
--- Normal forms that the strategy reaches within the limits.
-use Rattle.std.specs.Prelude.{◌≡◌, ℕ, ◌≤◌, List, None}
+-- Normal forms that the strategy reaches within the limits, and walks that pass a limit.
+use Rattle.std.specs.Prelude.{◌≡◌, ◌≢◌, ℕ, ◌<◌, ◌≤◌, List, None}
 use Rattle.etp_theory.specs.Trees.{Tree, leaves, Equation}
 use Rattle.etp_theory.specs.Strategy.{next, walk}
 use Rattle.etp_theory.specs.Limits.{step_limit, leaf_limit}
@@ -17,3 +17,19 @@ pub record HaveOneForm (rules : List Equation) (s t : Tree) : Type 0 where
   pub form : Tree
   pub of_left : IsFormOf rules s form
   pub of_right : IsFormOf rules t form
+
+abbrev pub HasForm : List Equation → Tree → Type 0
+HasForm rules s = (u : Tree) × IsFormOf rules s u
+
+-- a term after so many steps as a walk may take has too many leaves
+pub record PassesTermLimit (rules : List Equation) (s : Tree) : Type 0 where
+  pub steps : ℕ
+  pub few : steps ≤ step_limit
+  pub wide : leaf_limit < leaves (walk rules steps s)
+
+-- no such term comes, and the term after all these steps has a next one
+pub record PassesStepLimit (rules : List Equation) (s : Tree) : Type 0 where
+  pub steps : ℕ
+  pub all : steps ≡ step_limit
+  pub narrow : (k : ℕ) → k ≤ steps → leaves (walk rules k s) ≤ leaf_limit
+  pub going : next rules (walk rules steps s) ≢ None

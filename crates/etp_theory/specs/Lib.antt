@@ -15,6 +15,7 @@ pub mod Limits
 pub mod Forms
 pub mod Unifiers
 pub mod Overlaps
+pub mod FailingOverlaps
 pub mod Proofs
 pub mod Reach
 pub mod RightFacts

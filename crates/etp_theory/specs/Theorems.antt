@@ -17,9 +17,10 @@ use Rattle.etp_theory.specs.Tables.{HoldsInLists, place_of, IsAssignment, assign
 use Rattle.etp_theory.specs.Rewriting.{Step, StepAt, Steps, Joinable, Convertible, IsLocallyConfluent}
 use Rattle.etp_theory.specs.Weights.{sum_to, coefficient, constant, IsDecreasing, Weight, weigh, AllDecrease}
 use Rattle.etp_theory.specs.Strategy.{next, within, Fired, fired, normal_form, is_normal, normal_op}
-use Rattle.etp_theory.specs.Forms.{IsFormOf, HaveOneForm}
-use Rattle.etp_theory.specs.Unifiers.{IsMostGeneral, IsMostGeneralPartial, NoUnifier}
+use Rattle.etp_theory.specs.Forms.{IsFormOf, HaveOneForm, HasForm, PassesTermLimit, PassesStepLimit}
+use Rattle.etp_theory.specs.Unifiers.{IsMostGeneral, IsMostGeneralPartial, IsBest, NoUnifier}
 use Rattle.etp_theory.specs.Overlaps.{Overlap, outer_part, inner_part, left_result, right_result, PairPasses, PairsJoin, HasSmallVariables, IsConvergent}
+use Rattle.etp_theory.specs.FailingOverlaps.{Place, place, PlaceBefore, IsCriticalPair, KeepsApart, Finding, IsFinding, finding_under, FailsBy, IsFirstFailing}
 use Rattle.etp_theory.specs.Proofs.{IsStepBy, Lemma, conclusion, AreRightLemmas, IsValidProof, AllDerived}
 use Rattle.etp_theory.specs.Reach.{Fact, Reach, Covers}
 use Rattle.etp_theory.specs.RightFacts.{law_numbered, AreRightFacts}
@@ -158,6 +159,17 @@ pub record StrategyLaws : Type 0 where
   -- a walk that ends within the limits ends at the normal form
   pub form : (w : Weight) (rules : List Equation) → AllDecrease w rules
       → (s u : Tree) → IsFormOf rules s u → normal_form w rules s ≡ u
+  -- each walk has a form within the limits or passes one of them, and no walk does two of these
+  pub ends : (rules : List Equation) (s : Tree)
+      → HasForm rules s ⊎ (PassesTermLimit rules s ⊎ PassesStepLimit rules s)
+  pub one_form : (rules : List Equation) (s u v : Tree)
+      → IsFormOf rules s u → IsFormOf rules s v → u ≡ v
+  pub form_not_wide : (rules : List Equation) (s : Tree)
+      → HasForm rules s → PassesTermLimit rules s → ⊥
+  pub form_not_long : (rules : List Equation) (s : Tree)
+      → HasForm rules s → PassesStepLimit rules s → ⊥
+  pub one_limit : (rules : List Equation) (s : Tree)
+      → PassesTermLimit rules s → PassesStepLimit rules s → ⊥
   -- the step with its rule and its position
   pub fired_next : (rules : List Equation) (s : Tree) → within (λ (x : Fired). x.to) (fired rules s) ≡ next rules s
   pub fired_at : (rules : List Equation) (s : Tree) (x : Fired) → fired rules s ≡ Some x
@@ -188,6 +200,11 @@ pub record UnificationLaws : Type 0 where
       → ((m : Partial) × IsMostGeneralPartial m a b
       × ((v : ℕ) → apply (total m) (total m v) ≡ total m v))
       ⊎ NoUnifier a b
+  -- a finite map is most general among finite maps exactly where it is among total functions
+  pub finite : (m : Partial) (a b : Tree)
+      → IsMostGeneralPartial m a b ↔ IsMostGeneral (total m) a b
+  -- a best one is most general
+  pub best : (a b : Tree) (m : ℕ → Tree) → IsBest m a b → IsMostGeneral m a b
 
 pub record CriticalPairLaws : Type 0 where
   pub joined : (w : Weight) (rules : List Equation) → AllDecrease w rules
@@ -205,6 +222,44 @@ pub record CriticalPairLaws : Type 0 where
       → IsMostGeneralPartial m' (outer_part o) (inner_part o)
       → HaveOneForm rules (left_result o (total m)) (right_result o (total m))
       → HaveOneForm rules (left_result o (total m')) (right_result o (total m'))
+
+-- the order of overlaps, and the first one that fails
+pub record OverlapLaws : Type 0 where
+  -- the order of places is strict and total
+  pub irreflexive : (x : Place) → PlaceBefore x x → ⊥
+  pub transitive : (x y z : Place) → PlaceBefore x y → PlaceBefore y z → PlaceBefore x z
+  pub total : (x y : Place) → (x ≡ y) ⊎ (PlaceBefore x y ⊎ PlaceBefore y x)
+  -- two terms have one form within the limits, or there is exactly one finding
+  pub looked_at : (rules : List Equation) (s t : Tree)
+      → HaveOneForm rules s t ⊎ ((f : Finding) × IsFinding rules s t f)
+  pub not_both : (rules : List Equation) (s t : Tree) (f : Finding)
+      → HaveOneForm rules s t → IsFinding rules s t f → ⊥
+  pub one_finding : (rules : List Equation) (s t : Tree) (f g : Finding)
+      → IsFinding rules s t f → IsFinding rules s t g → f ≡ g
+  -- the variables of a critical pair may have other names
+  pub renamed_pair : (rules : List Equation) (o : Overlap rules) (s t : Tree) (f : ℕ → ℕ)
+      → KeepsApart f s t → IsCriticalPair o s t → IsCriticalPair o (renamed f s) (renamed f t)
+  -- one critical pair of an overlap tells whether it passes
+  pub one_pair_tells : (w : Weight) (rules : List Equation) → AllDecrease w rules
+      → (o : Overlap rules) (s t : Tree) → IsCriticalPair o s t
+      → PairPasses rules o ↔ HaveOneForm rules s t
+  pub all_pairs_tell : (w : Weight) (rules : List Equation) → AllDecrease w rules
+      → HasSmallVariables rules
+      → ((o : Overlap rules) (s t : Tree) → IsCriticalPair o s t → HaveOneForm rules s t)
+      ↔ IsConvergent w rules
+  -- a system is convergent or has a first failing overlap, and with a failing one it isn't
+  pub found : (w : Weight) (rules : List Equation) → AllDecrease w rules
+      → HasSmallVariables rules
+      → IsConvergent w rules ⊎ ((o : Overlap rules) × (s : Tree) × (t : Tree) × (f : Finding)
+      × IsFirstFailing o s t f)
+  pub not_convergent : (w : Weight) (rules : List Equation) → AllDecrease w rules
+      → (o : Overlap rules) (s t : Tree) (f : Finding)
+      → FailsBy o s t f → IsConvergent w rules → ⊥
+  -- there is one place of it, and two findings there differ by the names of variables alone
+  pub only_first : (w : Weight) (rules : List Equation) → AllDecrease w rules
+      → (o o' : Overlap rules) (s t s' t' : Tree) (f f' : Finding)
+      → IsFirstFailing o s t f → IsFirstFailing o' s' t' f'
+      → (place o ≡ place o') × ((k : ℕ → Tree) × (finding_under k f ≡ f'))
 
 -- the normal forms of a convergent system are a magma
 pub record NormalFormLaws : Type 0 where

@@ -7,7 +7,7 @@ mod magma;
 mod tests;
 
 ghost use Rattle.etp_theory.specs.Examples.{Examples};
-ghost use Rattle.etp_theory.specs.Theorems.{TermLaws, OrderLaws, SubstitutionLaws, PositionLaws, DualLaws, SamenessLaws, DerivationLaws, ProofLaws, MagmaLaws, TableLaws, WeightLaws, RewritingLaws, StrategyLaws, NewmanLaws, UnificationLaws, CriticalPairLaws, NormalFormLaws, ReachLaws};
+ghost use Rattle.etp_theory.specs.Theorems.{TermLaws, OrderLaws, SubstitutionLaws, PositionLaws, DualLaws, SamenessLaws, DerivationLaws, ProofLaws, MagmaLaws, TableLaws, WeightLaws, RewritingLaws, StrategyLaws, NewmanLaws, UnificationLaws, CriticalPairLaws, OverlapLaws, NormalFormLaws, ReachLaws};
 
 pub use magma::{Magma, keeps_derived};
 
@@ -90,6 +90,11 @@ pub fn unification_laws()
 /// Local confluence from critical pairs (Knuth and Bendix 1970, Huet 1980).
 pub fn critical_pair_laws()
     ensures { CriticalPairLaws }
+{}
+
+/// The order of a system's overlaps, and the first one that fails.
+pub fn overlap_laws()
+    ensures { OverlapLaws }
 {}
 
 /// The magma of the normal forms of a convergent system.
