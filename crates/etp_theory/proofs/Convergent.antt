@@ -1,17 +1,16 @@
-use Rattle.std.proofs.Common.{◌≡◌, ◌≢◌, ℕ, zero, suc, List, Option, Some, None, refl, sym, ap, ap₂, ◌∙◌, subst, subst₂}
+use Rattle.std.proofs.Common.{◌≡◌, ◌≢◌, ℕ, zero, suc, List, Option, Some, None, refl, sym, ap, ◌∙◌, subst, subst₂}
 use Rattle.etp_theory.specs.Trees.{Tree, Equation}
-use Rattle.etp_theory.specs.Substitutions.{apply, total, raise}
-use Rattle.etp_theory.specs.Positions.{put_at}
+use Rattle.etp_theory.specs.Substitutions.{apply, total}
 use Rattle.etp_theory.specs.Derivations.{Derives}
 use Rattle.etp_theory.specs.Rewriting.{Steps, Joinable, IsLocallyConfluent}
 use Rattle.etp_theory.specs.Weights.{Weight, AllDecrease}
 use Rattle.etp_theory.specs.Strategy.{next, go_on, walk, normal_form}
 use Rattle.etp_theory.specs.Overlaps.{outer_part, inner_part, PairsJoin, IsConvergent}
 use Rattle.etp_theory.specs.Forms.{IsFormOf, HaveOneForm}
-use Rattle.etp_theory.proofs.Trees.{sub_at_applied, put_at_applied}
 use Rattle.etp_theory.proofs.Rewriting.{join_applied}
 use Rattle.etp_theory.proofs.NormalForms.{normal_steps, normal_end, not_derived}
 use Rattle.etp_theory.proofs.Overlaps.{critical_pairs}
+use Rattle.etp_theory.proofs.Renaming.{right_through}
 use Rattle.etp_theory.proofs.Unifiers.{mgu, partial_of, total_of, partial_mgu, through, limit, finite}
 
 pub walk_stays : (rules : List Equation) (n : ℕ) (s : Tree) → next rules s ≡ None → walk rules n s ≡ s
@@ -48,9 +47,7 @@ module _ (w : Weight) (rules : List Equation) where
       let m = partial_of p.by (limit a b) in
       let j = join_of_form c.decreasing _ _ (c.pairs o m (partial_mgu a b p)) in
       let g : (v : ℕ) → apply n (total m v) ≡ n v = λ v. ap (apply n) (total_of p.by (limit a b) (finite a b p) v) ∙ p.absorbed n e v in
-      let t = through (total m) n n g in
-      let q = put_at_applied o.position n (apply (total m) o.outer_rule.left) _ (apply (total m) (raise o.inner_rule.right)) (sub_at_applied o.position (total m) o.outer_rule.left _ o.part) in
-      subst₂ (Joinable rules) (t o.outer_rule.right) (q ∙ ap₂ (put_at o.position) (t o.outer_rule.left) (t (raise o.inner_rule.right))) (join_applied rules n j)
+      subst₂ (Joinable rules) (through (total m) n n g o.outer_rule.right) (right_through o (total m) n n g) (join_applied rules n j)
 
   pub convergent_local : IsConvergent w rules → IsLocallyConfluent rules
   convergent_local c = critical_pairs rules w c.decreasing c.small (pairs_join c)

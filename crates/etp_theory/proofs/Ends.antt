@@ -1,5 +1,5 @@
 -- A walk has a form within the limits or passes one of them, and what is found of two terms.
-use Rattle.std.proofs.Common.{◌≡◌, ◌≢◌, ℕ, suc, ◌<◌, ◌≤◌, ◌⊎◌, inl, inr, Bool, true, false, List, Option, Some, None, refl, sym, ap, ap₂, ◌∙◌, subst, arith}
+use Rattle.std.proofs.Common.{◌≡◌, ℕ, suc, ◌<◌, ◌≤◌, ◌⊎◌, inl, inr, Bool, true, false, List, Option, Some, None, refl, sym, ap₂, ◌∙◌, subst, arith}
 use Rattle.etp_theory.specs.Trees.{Tree, leaves, Equation}
 use Rattle.etp_theory.specs.Strategy.{same, next, walk}
 use Rattle.etp_theory.specs.Forms.{IsFormOf, HaveOneForm, HasForm, PassesTermLimit, PassesStepLimit}

@@ -1,5 +1,5 @@
 -- An overlap passes or fails, and a system that isn't convergent has a first failing one.
-use Rattle.std.proofs.Common.{◌≡◌, ℕ, ◌<◌, ◌⊎◌, inl, inr, ◌↔◌, List, [], ◌∷◌, length, Option, Some, None, slice_get, refl, sym, ap, ap₂, ◌∙◌, subst, subst₂, arith}
+use Rattle.std.proofs.Common.{◌≡◌, ℕ, ◌<◌, ◌⊎◌, inl, inr, ◌↔◌, List, [], ◌∷◌, length, Option, Some, None, slice_get, refl, sym, ap, ap₂, ◌∙◌, subst, subst₂}
 use Rattle.std.proofs.lemmas.Option.{slice_get_within}
 use Rattle.etp_theory.specs.Trees.{Tree, var, op, Equation}
 use Rattle.etp_theory.specs.Substitutions.{apply, raise}
@@ -13,7 +13,7 @@ use Rattle.etp_theory.proofs.Unifiers.{Mgu, unify, best_of, through, eq_or_ne}
 use Rattle.etp_theory.proofs.General.{general_of_best}
 use Rattle.etp_theory.proofs.Renaming.{all_kept, right_through, both_ways, finding_undone}
 use Rattle.etp_theory.proofs.Passing.{convergent_of, all_pass}
-use Rattle.etp_theory.proofs.Places.{first_below, first_position, NoOperation, total}
+use Rattle.etp_theory.proofs.Places.{first_below, first_position, total}
 use Rattle.etp_theory.proofs.Ends.{looked_at, not_both, one_finding}
 
 module _ (rules : List Equation) where
@@ -41,7 +41,7 @@ module _ (rules : List Equation) where
         inner_parts = ap (λ (e : Equation). raise e.left) inners;
         lefts = λ m. ap (λ (e : Equation). apply m e.right) outers;
         rights = λ m. ap (λ p. put_at p (apply m o.outer_rule.left) (apply m (raise o.inner_rule.right))) b
-        ∙ ap₂ (put_at o'.position) (ap (apply m) lefts) (ap (λ (e : Equation). apply m (raise e.right)) inners);
+            ∙ ap₂ (put_at o'.position) (ap (apply m) lefts) (ap (λ (e : Equation). apply m (raise e.right)) inners);
       }
 
   passes_alike : (o o' : Overlap rules) → Alike o o' → PairPasses rules o → PairPasses rules o'

@@ -1,9 +1,9 @@
 -- Most general unifiers: finite maps and total functions, and other names of their variables.
-use Rattle.std.proofs.Common.{◌≡◌, ℕ, ◌-◌, ◌+◌, ◌<◌, ◌≤◌, max, ◌⊎◌, inl, inr, List, Option, Some, None, ◌↔◌, refl, sym, ap, ap₂, ◌∙◌, subst, arith}
+use Rattle.std.proofs.Common.{◌≡◌, ℕ, ◌-◌, ◌+◌, ◌<◌, ◌≤◌, max, ◌⊎◌, inl, inr, List, ◌↔◌, refl, sym, ap, ◌∙◌, arith}
 use Rattle.etp_theory.specs.Trees.{Tree, var, op, bound, Occurs, renamed, Equation}
 use Rattle.etp_theory.specs.Substitutions.{apply, then_apply, Partial, value_or, total}
 use Rattle.etp_theory.specs.Unifiers.{IsMostGeneral, IsMostGeneralPartial, IsBest, NoUnifier}
-use Rattle.etp_theory.specs.Overlaps.{Overlap, outer_part, inner_part, left_result, right_result}
+use Rattle.etp_theory.specs.Overlaps.{Overlap, outer_part, inner_part}
 use Rattle.etp_theory.specs.FailingOverlaps.{IsCriticalPair, KeepsApart}
 use Rattle.etp_theory.proofs.Trees.{composed}
 use Rattle.etp_theory.proofs.Matching.{apply_agree}

@@ -23,3 +23,4 @@ pub mod Ends
 pub mod Failing
 pub mod Reaching
 pub mod Examples
+pub mod FirstExample

@@ -1,5 +1,5 @@
 -- The order of positions and of places, and the first of them at which something is found.
-use Rattle.std.proofs.Common.{◌≡◌, ℕ, zero, suc, ◌<◌, ◌≤◌, ◌⊎◌, inl, inr, List, [], ◌∷◌, Some, refl, sym, ap, ◌∙◌, subst, arith}
+use Rattle.std.proofs.Common.{◌≡◌, ℕ, zero, suc, ◌<◌, ◌⊎◌, inl, inr, ◌↔◌, List, [], ◌∷◌, ◌++◌, Some, refl, sym, ap, ◌∙◌, subst, arith}
 use Rattle.etp_theory.specs.Trees.{Tree, var, op}
 use Rattle.etp_theory.specs.Positions.{Side, to_left, to_right, sub_at}
 use Rattle.etp_theory.specs.FailingOverlaps.{PositionBefore, Place, PlaceBefore, by_outer, by_position, by_inner}
@@ -39,6 +39,12 @@ position_total (to_left ∷ p) (to_left ∷ q) = one_deeper to_left (position_to
 position_total (to_left ∷ p) (to_right ∷ q) = inr (inl tt)
 position_total (to_right ∷ p) (to_left ∷ q) = inr (inr tt)
 position_total (to_right ∷ p) (to_right ∷ q) = one_deeper to_right (position_total p q)
+
+-- positions inside one part are ordered as the part's own
+pub position_inside : (p q r : List Side) → PositionBefore (p ++ q) (p ++ r) ↔ PositionBefore q r
+position_inside [] q r = (λ h. h, λ h. h)
+position_inside (to_left ∷ p) q r = position_inside p q r
+position_inside (to_right ∷ p) q r = position_inside p q r
 
 -- places
 

@@ -18,16 +18,17 @@ pub record HaveOneForm (rules : List Equation) (s t : Tree) : Type 0 where
   pub of_left : IsFormOf rules s form
   pub of_right : IsFormOf rules t form
 
+-- the walk ends within the limits
 abbrev pub HasForm : List Equation → Tree → Type 0
 HasForm rules s = (u : Tree) × IsFormOf rules s u
 
--- a term after so many steps as a walk may take has too many leaves
+-- after no more steps than a walk may take, a term has too many leaves
 pub record PassesTermLimit (rules : List Equation) (s : Tree) : Type 0 where
   pub steps : ℕ
   pub few : steps ≤ step_limit
   pub wide : leaf_limit < leaves (walk rules steps s)
 
--- no such term comes, and the term after all these steps has a next one
+-- no such term comes, and after all the steps that a walk may take there is a next one
 pub record PassesStepLimit (rules : List Equation) (s : Tree) : Type 0 where
   pub steps : ℕ
   pub all : steps ≡ step_limit

@@ -1,6 +1,6 @@
 -- The theorems, as the contracts name them. Substitutions are total functions, but where `Partial`
 -- stands.
-use Rattle.std.specs.Prelude.{◌*◌, ◌+◌, length, ◌^◌, ◌≡◌, ◌≢◌, ℕ, ◌<◌, ◌≤◌, ◌↔◌, ◌⊎◌, Bool, IsTrue, List, [], slice_get, Some, None}
+use Rattle.std.specs.Prelude.{◌*◌, ◌+◌, length, ◌^◌, ◌≡◌, ◌≢◌, ℕ, ◌<◌, ◌≤◌, ◌↔◌, ◌⊎◌, Bool, IsTrue, List, [], ◌++◌, slice_get, Some, None}
 use Rattle.std.specs.Ordering.{nat_cmp}
 use Rattle.std.specs.Cmp.{IsTotalOrder}
 use Rattle.std.specs.Cmp.Lexicographic.{slice_cmp}
@@ -20,7 +20,7 @@ use Rattle.etp_theory.specs.Strategy.{next, within, Fired, fired, normal_form, i
 use Rattle.etp_theory.specs.Forms.{IsFormOf, HaveOneForm, HasForm, PassesTermLimit, PassesStepLimit}
 use Rattle.etp_theory.specs.Unifiers.{IsMostGeneral, IsMostGeneralPartial, IsBest, NoUnifier}
 use Rattle.etp_theory.specs.Overlaps.{Overlap, outer_part, inner_part, left_result, right_result, PairPasses, PairsJoin, HasSmallVariables, IsConvergent}
-use Rattle.etp_theory.specs.FailingOverlaps.{Place, place, PlaceBefore, IsCriticalPair, KeepsApart, Finding, IsFinding, finding_under, FailsBy, IsFirstFailing}
+use Rattle.etp_theory.specs.FailingOverlaps.{PositionBefore, Place, place, PlaceBefore, IsCriticalPair, KeepsApart, Finding, IsFinding, finding_under, FailsBy, IsFirstFailing}
 use Rattle.etp_theory.specs.Proofs.{IsStepBy, Lemma, conclusion, AreRightLemmas, IsValidProof, AllDerived}
 use Rattle.etp_theory.specs.Reach.{Fact, Reach, Covers}
 use Rattle.etp_theory.specs.RightFacts.{law_numbered, AreRightFacts}
@@ -229,6 +229,8 @@ pub record OverlapLaws : Type 0 where
   pub irreflexive : (x : Place) → PlaceBefore x x → ⊥
   pub transitive : (x y z : Place) → PlaceBefore x y → PlaceBefore y z → PlaceBefore x z
   pub total : (x y : Place) → (x ≡ y) ⊎ (PlaceBefore x y ⊎ PlaceBefore y x)
+  -- inside one part positions are ordered as the part's own
+  pub inside : (p q r : List Side) → PositionBefore (p ++ q) (p ++ r) ↔ PositionBefore q r
   -- two terms have one form within the limits, or there is exactly one finding
   pub looked_at : (rules : List Equation) (s t : Tree)
       → HaveOneForm rules s t ⊎ ((f : Finding) × IsFinding rules s t f)

@@ -1,4 +1,4 @@
-use Rattle.etp_theory.proofs.Places.{irreflexive, transitive, total}
+use Rattle.etp_theory.proofs.Places.{irreflexive, transitive, total, position_inside}
 use Rattle.etp_theory.proofs.Ends.{looked_at, not_both, one_finding}
 use Rattle.etp_theory.proofs.General.{pair_renamed}
 use Rattle.etp_theory.proofs.Failing.{one_pair_tells, all_pairs_tell, found, not_convergent, only_first}
@@ -9,6 +9,7 @@ returns c = record {
   irreflexive = irreflexive;
   transitive = transitive;
   total = total;
+  inside = position_inside;
   looked_at = looked_at;
   not_both = not_both;
   one_finding = one_finding;
