@@ -23,6 +23,7 @@ pub record Place : Type 0 where
   pub position : List Side
   pub inner : ℕ
 
+-- the place of an overlap
 abbrev pub place : {rules : List Equation} → Overlap rules → Place
 place o = record { outer = o.outer; position = o.position; inner = o.inner }
 
@@ -49,7 +50,7 @@ pub data Finding : Type 0 where
   term_limit : Finding
   step_limit : Finding
 
--- two different forms, or the limit that the walk of the left term passes, else that of the right one
+-- two different forms, or the limit that the left term's walk passes, else the right term's
 abbrev pub IsFinding : List Equation → Tree → Tree → Finding → Type 0
 IsFinding rules s t (two_forms u v) = IsFormOf rules s u × IsFormOf rules t v × (u ≢ v)
 IsFinding rules s t term_limit =
@@ -68,7 +69,7 @@ pub record FailsBy {rules : List Equation} (o : Overlap rules) (s t : Tree) (f :
   pub pair : IsCriticalPair o s t
   pub found : IsFinding rules s t f
 
--- it fails, and each overlap before it passes
+-- the overlap fails so, and each one before it passes
 pub record IsFirstFailing {rules : List Equation} (o : Overlap rules) (s t : Tree) (f : Finding) : Type 0 where
   pub fails : FailsBy o s t f
   pub earlier : (o' : Overlap rules) → PlaceBefore (place o') (place o) → PairPasses rules o'
