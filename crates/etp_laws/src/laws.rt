@@ -17,7 +17,7 @@ use std::alloc::{AllocError, Global};
 use std::marker::Model;
 
 /// The number of a law, or why it has none.
-#[derive(Clone, Copy)]
+#[derive(Clone, Copy, Debug)]
 pub enum Numbered {
     /// The number of the law of the list that is the same.
     Is(u32),

@@ -5,3 +5,5 @@ pub mod Tables
 pub mod Naming
 pub mod Goals
 pub mod Judged
+pub mod OneStep
+pub mod OneVerdict

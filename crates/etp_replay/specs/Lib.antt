@@ -5,3 +5,4 @@ pub mod Lines
 pub mod Names
 pub mod Replay
 pub mod Validity
+pub mod Theorems

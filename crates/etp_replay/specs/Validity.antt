@@ -35,9 +35,13 @@ pub record IsOtherGoal (l : LawList) (hypothesis goal : Equation) (cites : List 
   pub last : slice_get lemmas (length lemmas - 1) ≡ Some final
   pub other : IsOtherLaw l (conclusion final) goal r
 
--- want of memory, or the first offence: a wrong step, else another goal
+-- the first offence: a wrong step, else another goal
+abbrev pub IsFirstOffence : LawList → Equation → Equation → List Equation → List Lemma → ReplayRefusal → Type 0
+IsFirstOffence l hypothesis goal cites lemmas r =
+    IsFirstWrong hypothesis cites lemmas r ⊎ IsOtherGoal l hypothesis goal cites lemmas r
+
+-- want of memory, or the first offence
 abbrev pub IsRefused : LawList → Proof → List ℕ → ReplayRefusal → Type 0
 IsRefused l proof cited r =
     (r ≡ NoMemory)
-    ⊎ (IsFirstWrong (law_at l.equations proof.hypothesis) (map (law_at l.equations) cited) (map lemma_of proof.lemmas) r
-    ⊎ IsOtherGoal l (law_at l.equations proof.hypothesis) (law_at l.equations proof.goal) (map (law_at l.equations) cited) (map lemma_of proof.lemmas) r)
+    ⊎ IsFirstOffence l (law_at l.equations proof.hypothesis) (law_at l.equations proof.goal) (map (law_at l.equations) cited) (map lemma_of proof.lemmas) r

@@ -112,6 +112,25 @@ fn law_168_implies_law_1485(rt: HostRuntime) {
 }
 
 #[test]
+fn left_projection_implies_associativity(rt: HostRuntime) {
+    let alloc = rt.alloc();
+    let laws = Laws::build(alloc).expect(&rt, "memory");
+    let inner = product(alloc, 1, 2).expect(&rt, "memory");
+    let start = op(alloc, Term::Var(0), inner).expect(&rt, "memory");
+    let mut steps = Steps::empty(alloc);
+    let mut first = step(alloc, 0, Term::Var(0));
+    first.reversed = true;
+    steps.push(first).expect(&rt, "memory");
+    let to = product(alloc, 0, 1).expect(&rt, "memory");
+    steps.push(step(alloc, 0, to)).expect(&rt, "memory");
+    let left = product(alloc, 0, 1).expect(&rt, "memory");
+    let to = op(alloc, left, Term::Var(2)).expect(&rt, "memory");
+    steps.push(step(alloc, 0, to)).expect(&rt, "memory");
+    let proof = one_lemma(alloc, 4, 4512, Lemma { start, steps }).expect(&rt, "memory");
+    assert!(rt; matches!(replayed(alloc, &laws, &proof), Some(Ok(()))));
+}
+
+#[test]
 fn a_lemma_without_steps_concludes_the_first_law(rt: HostRuntime) {
     let alloc = rt.alloc();
     let laws = Laws::build(alloc).expect(&rt, "memory");
