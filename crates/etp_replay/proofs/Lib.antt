@@ -5,3 +5,4 @@ pub mod Tables
 pub mod Naming
 pub mod Goals
 pub mod Judged
+pub mod LastStep
