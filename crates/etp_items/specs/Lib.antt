@@ -1,1 +1,5 @@
 pub mod Bodies
+pub mod Words
+pub mod Numbers
+pub mod BodyLines
+pub mod Reading

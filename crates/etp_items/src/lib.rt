@@ -2,5 +2,11 @@
 #![tactic(auto)]
 
 mod body;
+mod numbers;
+mod refusal;
+mod words;
 
 pub use body::Body;
+pub use numbers::number_word;
+pub use refusal::BodyRefusal;
+pub use words::{is, next_word, skip_blanks};
