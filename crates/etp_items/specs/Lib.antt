@@ -2,4 +2,5 @@ pub mod Bodies
 pub mod Words
 pub mod Numbers
 pub mod BodyLines
+pub mod Said
 pub mod Reading

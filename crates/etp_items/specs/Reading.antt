@@ -1,6 +1,6 @@
 -- Bodies by their lines, and why lines aren't a body.
 use Rattle.std.specs.Prelude.{◌≡◌, ◌+◌, ◌≤◌, ◌<◌, ◌⊎◌, ℕ, Bool, true, false, not, ◌&&◌, nat_lt, List, [], ◌∷◌, ◌++◌, length, map, take, All, if◌then◌else◌, Option, Some, None}
-use Rattle.etp_theory.specs.Proofs.{ProofStep, Lemma}
+use Rattle.etp_theory.specs.Proofs.{Lemma}
 use Rattle.etp_items.specs.BodyLines.{Version, plain, citing, Line, heading, cite, lemma, step, Says, IsBlankLine}
 use Rattle.etp_items.specs.Bodies.{ProofBody, FileBody, proof}
 use Rattle.etp_items.specs.declared.refusal.BodyRefusal.{BodyRefusal}
@@ -47,7 +47,7 @@ Reads first (None ∷ lines) saids last = ⊥
 Reads first (Some line ∷ lines) saids last =
     (IsBlankLine line × Reads first lines saids last)
     ⊎ ((said : Line) × (next : Place) × (more : List Line) × Says line said × (after first said ≡ Some next)
-       × Reads next lines more last × (saids ≡ said ∷ more))
+    × Reads next lines more last × (saids ≡ said ∷ more))
 
 -- the lines of lemmas: each lemma's start, and its steps
 abbrev pub lemma_lines : List Lemma → List Line

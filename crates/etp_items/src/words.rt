@@ -1,5 +1,5 @@
-ghost use Rattle.std.specs.Prelude.{◌≡◌, ◌≤◌, ◌<◌, ◌∷◌, [], take, drop, length, IfSome, MatchOption, true};
-ghost use Rattle.etp_items.specs.Words.{words_of, is_blank, goes_on, skip_blanks, skip_word, behind_word, is_word};
+ghost use Rattle.std.specs.Prelude.{◌≡◌, ◌≤◌, ◌<◌, ◌∷◌, [], take, drop, length, IfSome, IsTrue, ◌↔◌, MatchOption, true};
+ghost use Rattle.etp_items.specs.Words.{words_of, is_blank, goes_on, skip_blanks, skip_word, behind_word, is_word, is_comment};
 
 fn is_blank(byte: u8) -> bool
     ensures { result ≡ is_blank byte }
@@ -43,6 +43,7 @@ pub fn next_word(line: &[u8]) -> Option<(&[u8], &[u8])>
     ensures words { MatchOption result (words_of line.now ≡ []) (λ p. words_of line.now ≡ p.0.now ∷ words_of p.1.now) }
     ensures rest { IfSome result (λ p. p.1.now ≡ behind_word line.now) }
     ensures within { IfSome result (λ p. length p.1.now ≤ length line.now) }
+    ensures short { IfSome result (λ p. length p.0.now ≤ length line.now) }
 {
     let line = skip_blanks(line);
     if line.is_empty() {
@@ -54,7 +55,15 @@ pub fn next_word(line: &[u8]) -> Option<(&[u8], &[u8])>
 
 /// Whether the word is this one.
 pub fn is(word: &[u8], name: &str) -> bool
-    ensures { result ≡ is_word word.now name.now }
+    ensures value { result ≡ is_word word.now name.now }
+    ensures same { IsTrue result ↔ (word.now ≡ name.now) }
 {
     word == name.as_bytes()
+}
+
+/// Whether the word begins with `#`, so that its line is a comment where it is the first one.
+pub fn is_comment(word: &[u8]) -> bool
+    ensures { result ≡ is_comment word.now }
+{
+    matches!(word, [b'#', ..])
 }
