@@ -4,3 +4,4 @@ pub mod Numbers
 pub mod BodyLines
 pub mod Said
 pub mod Reading
+pub mod Work

@@ -67,6 +67,10 @@ abbrev pub numbers_of : Line → List ℕ
 numbers_of (heading version hypothesis goal) = hypothesis ∷ goal ∷ []
 numbers_of _ = []
 
+-- and of a body
+abbrev pub body_numbers : FileBody → List ℕ
+body_numbers (proof p) = p.hypothesis ∷ p.goal ∷ []
+
 -- a law number from 1 to `count`
 abbrev pub IsListed : ℕ → ℕ → Type 0
 IsListed count n = (1 ≤ n) × (n ≤ count)

@@ -4,11 +4,14 @@
 mod body;
 mod lines;
 mod numbers;
+mod reader;
 mod refusal;
 mod words;
+mod work;
 
 pub use body::Body;
 pub use lines::{Version, lemma_line, step_line};
 pub use numbers::number_word;
+pub use reader::BodyReader;
 pub use refusal::BodyRefusal;
 pub use words::{is, is_comment, next_word, skip_blanks};
