@@ -1,3 +1,6 @@
 pub mod WordLemmas
 pub mod SideLemmas
 pub mod OneLine
+pub mod ReadingLemmas
+pub mod WorkLemmas
+pub mod ReaderLemmas

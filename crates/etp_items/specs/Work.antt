@@ -1,9 +1,9 @@
 -- What a reader has read of a body.
-use Rattle.std.specs.Prelude.{◌≡◌, ◌+◌, ◌<◌, ◌≤◌, ℕ, Bool, true, false, min, List, [], ◌∷◌, ◌++◌, length, map, take, All, Option, Some, None}
+use Rattle.std.specs.Prelude.{◌≡◌, ◌+◌, ◌≤◌, ℕ, Bool, true, false, min, List, [], ◌∷◌, ◌++◌, length, take, All, Option, Some, None}
 use Rattle.etp_replay.specs.declared.proof.Lemma.{Lemma}
 use Rattle.etp_replay.specs.declared.label.Label.{Label}
 use Rattle.etp_items.specs.Bodies.{FileBody, proof, proof_of}
-use Rattle.etp_items.specs.BodyLines.{Version, Line, Says, IsBlankLine}
+use Rattle.etp_items.specs.BodyLines.{Version, Line}
 use Rattle.etp_items.specs.Said.{version_of}
 use Rattle.etp_items.specs.Reading.{GivenLine, Place, opening, headed, within, after, Reads, line_limit, lines_said, IsBody, body_numbers, IsListed, AreListed, IsFirstUnlisted, IsBadLine, HasNoPlace}
 use Rattle.etp_items.specs.declared.work.ProofWork.{ProofWork}
@@ -55,6 +55,12 @@ pub record IsFirstOf (count : ℕ) (numbers : List ℕ) (number : ℕ) : Type 0 
   pub whole : numbers ≡ known ++ number ∷ more
   pub listed : All (IsListed count) known
   pub unlisted : IsListed count number → ⊥
+
+-- the number found first: one that is known, else that of one more line
+abbrev pub unlisted_then : Option Unlisted → Option ℕ → ℕ → Option Unlisted
+unlisted_then (Some u) o k = Some u
+unlisted_then None None k = None
+unlisted_then None (Some n) k = Some (record { line = k; number = n })
 
 -- the lines that may stand in a body have all been read
 pub record HasGoodLines (reader : BodyReader) (lines : List GivenLine) : Type 0 where

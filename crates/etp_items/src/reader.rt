@@ -1,10 +1,10 @@
-ghost use Rattle.std.specs.Prelude.{◌≡◌, ◌≤◌, ◌<◌, ◌++◌, ◌∷◌, [], ℕ, List, Bool, Some, length, All, IfOk, IfErr, OnOk, OnErr, IfSome, IsTrue, ◌↔◌, MatchOption};
+ghost use Rattle.std.specs.Prelude.{◌≡◌, ◌≤◌, ◌<◌, ◌+◌, ◌++◌, ◌∷◌, [], ℕ, List, true, false, min, Some, None, length, All, IfOk, IfErr, OnOk, OnErr, IfSome, IsTrue, ◌↔◌, MatchOption};
 ghost use Rattle.std.specs.Option.{option_copied};
 ghost use Rattle.etp_items.specs.Bodies.{body_of};
 ghost use Rattle.etp_items.specs.BodyLines.{Says, IsBlankLine};
 ghost use Rattle.etp_items.specs.Said.{line_of};
 ghost use Rattle.etp_items.specs.Reading.{GivenLine, line_limit, numbers_of, IsListed, Refuses};
-ghost use Rattle.etp_items.specs.Work.{HasGoodLines, HasRead, GoesPast, KeepsCounts, IsReadBody, IsFirstOf};
+ghost use Rattle.etp_items.specs.Work.{HasGoodLines, HasRead, GoesPast, KeepsCounts, IsReadBody, IsFirstOf, unlisted_then};
 
 use crate::body::Body;
 use crate::lines::{Heading, Said, is_blank_line, read_line};
@@ -63,6 +63,17 @@ fn first_of(count: u32, heading: Heading) -> Option<u32>
     None
 }
 
+/// The number found first: one that is known, else that of this line.
+fn first_found(known: Option<Unlisted>, number: Option<u32>, line: u32) -> Option<Unlisted>
+    ensures { result ≡ unlisted_then known number line }
+{
+    match (known, number) {
+        (Some(first), _) => Some(first),
+        (None, Some(number)) => Some(Unlisted { line, number }),
+        (None, None) => None,
+    }
+}
+
 impl BodyReader {
     /// A reader of bodies whose law numbers are from 1 to `count`.
     pub fn start(alloc: Global, count: u32) -> Result<BodyReader, NoMemory>
@@ -87,19 +98,31 @@ impl BodyReader {
         ensures count { OnOk result (self.new.count ≡ self.old.count) }
         ensures err { OnErr result (self.new ≡ self.old) }
     {
-        if self.lines > LINE_LIMIT {
-            return Ok(());
-        }
-        if self.lines == LINE_LIMIT || self.bad.is_some() {
-            self.lines += 1;
+        if self.only_counts() {
+            self.count_line();
             return Ok(());
         }
         let good = self.read_next(line)?;
-        self.lines += 1;
+        self.count_line();
         if !good {
             self.bad = Some(self.lines);
         }
         Ok(())
+    }
+
+    /// Whether a line more is counted and not looked at.
+    fn only_counts(&self) -> bool
+        ensures yes { result ≡ true → self.now.bad ≡ None → line_limit ≤ self.now.lines }
+        ensures no { result ≡ false → (self.now.bad ≡ None) × (self.now.lines < line_limit) }
+    {
+        self.lines >= LINE_LIMIT || self.bad.is_some()
+    }
+
+    /// Counts a line; past the limit the count stands still.
+    fn count_line(&mut self)
+        ensures { self.new ≡ record self.old { lines = min self.old.lines line_limit + 1 } }
+    {
+        self.lines = self.lines.min(LINE_LIMIT) + 1;
     }
 
     /// Reads a line within the limit, and answers whether it may stand.
@@ -129,14 +152,12 @@ impl BodyReader {
         ensures counts { OnOk result (KeepsCounts self.old self.new) }
         ensures err { OnErr result (self.new ≡ self.old) }
     {
-        let unlisted = first_unlisted(self.count, &said);
+        let number = first_unlisted(self.count, &said);
+        let unlisted = first_found(self.unlisted, number, self.lines + 1);
         if !self.work.take(self.alloc, said)? {
             return Ok(false);
         }
-        if self.unlisted.is_none() {
-            let line = self.lines + 1;
-            self.unlisted = unlisted.map(|number| Unlisted { line, number });
-        }
+        self.unlisted = unlisted;
         Ok(true)
     }
 
@@ -167,7 +188,10 @@ impl BodyReader {
             return Err(unfinished);
         };
         match unlisted {
-            Some(Unlisted { line, number }) => Err(BodyRefusal::UnknownLaw { line, number }),
+            Some(first) => Err(BodyRefusal::UnknownLaw {
+                line: first.line,
+                number: first.number,
+            }),
             None => Ok(body),
         }
     }

@@ -2,7 +2,7 @@ ghost use Rattle.std.specs.Prelude.{◌≡◌, ◌∷◌, [], false, IfOk, OnErr
 ghost use Rattle.etp_items.specs.Bodies.{body_of};
 ghost use Rattle.etp_items.specs.Said.{version_of, line_of};
 ghost use Rattle.etp_items.specs.Work.{place_of, said_by, proof_place, proof_said, Takes, IsWhole};
-ghost use Rattle.etp_items.specs.Reading.{headed, is_complete};
+ghost use Rattle.etp_items.specs.Reading.{headed, is_complete, may_step};
 
 use crate::body::Body;
 use crate::lines::{Heading, Said, Version};
@@ -92,11 +92,21 @@ impl ProofWork {
         if self.proof.lemmas.len() == 0 {
             return Ok(false);
         }
-        if self.version == Version::Plain && step.cited {
+        if !may_step(self.version, step.cited) {
             return Ok(false);
         }
         self.proof.lemmas.push_step(step)?;
         Ok(true)
+    }
+}
+
+/// Whether a proof of this version has steps by a cite, or by no cite.
+fn may_step(version: Version, cited: bool) -> bool
+    ensures { result ≡ may_step (version_of version) cited }
+{
+    match version {
+        Version::Plain => !cited,
+        Version::Citing => true,
     }
 }
 
