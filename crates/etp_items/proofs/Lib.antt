@@ -4,3 +4,5 @@ pub mod OneLine
 pub mod ReadingLemmas
 pub mod WorkLemmas
 pub mod ReaderLemmas
+pub mod OneBody
+pub mod OneRefusal

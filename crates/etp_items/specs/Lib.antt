@@ -5,3 +5,4 @@ pub mod BodyLines
 pub mod Said
 pub mod Reading
 pub mod Work
+pub mod Theorems

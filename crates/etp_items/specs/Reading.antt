@@ -149,3 +149,10 @@ Refuses count lines closed (BadLine line) = IsBadLine lines line
 Refuses count lines closed (UnknownLaw line number) = IsUnknownLaw count lines closed line number
 Refuses count lines closed (TooManyLines line) = IsTooMany lines line
 Refuses count lines closed (Unfinished line) = IsUnfinished lines closed line
+
+-- the lines are this body, closed and with listed law numbers
+pub record IsReadBody (count : ℕ) (lines : List GivenLine) (closed : Bool) (body : FileBody) : Type 0 where
+  pub is_closed : closed ≡ true
+  pub few : length lines ≤ line_limit
+  pub is_body : IsBody lines body
+  pub listed : All (IsListed count) (body_numbers body)

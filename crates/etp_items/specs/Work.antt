@@ -5,7 +5,7 @@ use Rattle.etp_replay.specs.declared.label.Label.{Label}
 use Rattle.etp_items.specs.Bodies.{FileBody, proof, proof_of}
 use Rattle.etp_items.specs.BodyLines.{Version, Line}
 use Rattle.etp_items.specs.Said.{version_of}
-use Rattle.etp_items.specs.Reading.{GivenLine, Place, opening, headed, within, after, Reads, line_limit, lines_said, IsBody, body_numbers, IsListed, AreListed, IsFirstUnlisted, IsBadLine, HasNoPlace}
+use Rattle.etp_items.specs.Reading.{GivenLine, Place, opening, headed, within, after, Reads, line_limit, lines_said, IsListed, AreListed, IsFirstUnlisted, IsBadLine, HasNoPlace}
 use Rattle.etp_items.specs.declared.work.ProofWork.{ProofWork}
 use Rattle.etp_items.specs.declared.work.Work.{Work}
 use Rattle.etp_items.specs.declared.work.Work.TheVariants.{Opening, Proof}
@@ -87,10 +87,3 @@ pub record KeepsCounts (old new : BodyReader) : Type 0 where
   pub count : new.count ≡ old.count
   pub lines : new.lines ≡ old.lines
   pub bad : new.bad ≡ old.bad
-
--- what a reader gives of lines that are a closed body
-pub record IsReadBody (count : ℕ) (lines : List GivenLine) (closed : Bool) (body : FileBody) : Type 0 where
-  pub is_closed : closed ≡ true
-  pub few : length lines ≤ line_limit
-  pub is_body : IsBody lines body
-  pub listed : All (IsListed count) (body_numbers body)

@@ -1,6 +1,8 @@
 //! The bodies of files: read line by line, and written.
 #![tactic(auto)]
 
+ghost use Rattle.etp_items.specs.Theorems.{BodyLaws};
+
 mod body;
 mod lines;
 mod numbers;
@@ -15,3 +17,8 @@ pub use numbers::number_word;
 pub use reader::BodyReader;
 pub use refusal::BodyRefusal;
 pub use words::{is, is_comment, next_word, skip_blanks};
+
+/// Lines are one body or have one refusal.
+pub fn body_laws()
+    ensures { BodyLaws }
+{}

@@ -3,8 +3,8 @@ ghost use Rattle.std.specs.Option.{option_copied};
 ghost use Rattle.etp_items.specs.Bodies.{body_of};
 ghost use Rattle.etp_items.specs.BodyLines.{Says, IsBlankLine};
 ghost use Rattle.etp_items.specs.Said.{line_of};
-ghost use Rattle.etp_items.specs.Reading.{GivenLine, line_limit, numbers_of, IsListed, Refuses};
-ghost use Rattle.etp_items.specs.Work.{HasGoodLines, HasRead, GoesPast, KeepsCounts, IsReadBody, IsFirstOf, unlisted_then};
+ghost use Rattle.etp_items.specs.Reading.{GivenLine, line_limit, numbers_of, IsListed, IsReadBody, Refuses};
+ghost use Rattle.etp_items.specs.Work.{HasGoodLines, HasRead, GoesPast, KeepsCounts, IsFirstOf, unlisted_then};
 
 use crate::body::Body;
 use crate::lines::{Heading, Said, is_blank_line, read_line};
