@@ -1,8 +1,8 @@
 -- Lines are read in one way, and are one body.
-use Rattle.std.proofs.Common.{◌≡◌, ℕ, List, [], ◌∷◌, ◌++◌, map, refl, sym, ap, subst, ◌∙◌, inl, inr, Option, Some, None}
+use Rattle.std.proofs.Common.{◌≡◌, ℕ, List, [], ◌∷◌, ◌++◌, map, refl, sym, ap, subst, ◌∙◌, inl, inr, Some, None}
 use Rattle.etp_theory.specs.Proofs.{Lemma, ProofStep}
 use Rattle.etp_items.specs.Bodies.{ProofBody, FileBody, proof}
-use Rattle.etp_items.specs.BodyLines.{Version, Line, heading, cite, lemma, step, Says}
+use Rattle.etp_items.specs.BodyLines.{Version, Line, heading, cite, lemma, step}
 use Rattle.etp_items.specs.Reading.{GivenLine, Place, opening, within, after, Reads, lemma_lines, lines_said, IsBody}
 use Rattle.etp_items.proofs.OneLine.{one_line, blank_says}
 

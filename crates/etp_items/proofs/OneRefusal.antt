@@ -1,11 +1,11 @@
 -- Lines that are refused have one refusal, and lines that are a closed body with listed numbers have none.
-use Rattle.std.proofs.Common.{◌≡◌, ℕ, zero, suc, ◌+◌, ◌<◌, ◌≤◌, arith, Bool, true, false, ◌&&◌, List, [], ◌∷◌, ◌++◌, length, take, drop, map, All, refl, sym, ap, subst, ◌∙◌, ◌⊎◌, inl, inr, Option, Some, None}
+use Rattle.std.proofs.Common.{◌≡◌, ℕ, ◌<◌, ◌≤◌, arith, Bool, true, false, ◌&&◌, List, [], ◌∷◌, ◌++◌, length, take, drop, map, All, refl, sym, ap, subst, ◌∙◌, inl, inr, Some, None}
 use Rattle.std.proofs.lemmas.List.{take-append-drop, length-take-le}
 use Rattle.std.proofs.lemmas.List.Elements.{All-head, All-tail, All-nil, All-cons}
 use Rattle.etp_theory.specs.Proofs.{Lemma, ProofStep}
 use Rattle.etp_items.specs.Bodies.{FileBody, proof}
 use Rattle.etp_items.specs.BodyLines.{Version, Line, heading, cite, lemma, step, Says}
-use Rattle.etp_items.specs.Reading.{GivenLine, Place, opening, within, after, Reads, line_limit, lemma_lines, lines_said, numbers_of, body_numbers, is_complete, IsBody, IsListed, AreListed, IsFirstUnlisted, HasNoPlace, IsBadLine, IsTooMany, IsUnfinished, IsUnknownLaw, IsReadBody, Refuses}
+use Rattle.etp_items.specs.Reading.{GivenLine, Place, opening, within, Reads, line_limit, lemma_lines, lines_said, numbers_of, body_numbers, is_complete, IsBody, IsListed, AreListed, IsFirstUnlisted, HasNoPlace, IsBadLine, IsTooMany, IsUnfinished, IsReadBody, Refuses}
 use Rattle.etp_items.specs.declared.refusal.BodyRefusal.{BodyRefusal}
 use Rattle.etp_items.specs.declared.refusal.BodyRefusal.TheVariants.{BadLine, UnknownLaw, TooManyLines, Unfinished}
 use Rattle.etp_items.proofs.OneLine.{one_line, blank_says}

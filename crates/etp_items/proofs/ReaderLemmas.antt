@@ -5,7 +5,7 @@ use Rattle.std.proofs.lemmas.List.Elements.{All-head}
 use Rattle.etp_items.specs.Bodies.{FileBody, proof}
 use Rattle.etp_items.specs.BodyLines.{Line}
 use Rattle.etp_items.specs.Reading.{GivenLine, Place, opening, Reads, line_limit, lines_said, numbers_of, body_numbers, is_complete, IsBody, IsListed, AreListed, IsFirstUnlisted, IsUnfinished, IsUnknownLaw, IsReadBody, HasNoPlace}
-use Rattle.etp_items.specs.Work.{place_of, said_by, KnowsListed, HasGoodLines, HasFound, HasRead, KeepsCounts, IsWhole, IsReadBody}
+use Rattle.etp_items.specs.Work.{place_of, said_by, KnowsListed, HasGoodLines, HasFound, HasRead, KeepsCounts, IsWhole}
 use Rattle.etp_items.specs.declared.reader.BodyReader.{BodyReader}
 use Rattle.etp_items.specs.declared.reader.Unlisted.{Unlisted}
 use Rattle.etp_items.proofs.ReadingLemmas.{more_reads, more_knows, bad_stays}

@@ -1,5 +1,5 @@
 -- What a reader has read of a body.
-use Rattle.std.specs.Prelude.{◌≡◌, ◌+◌, ◌≤◌, ℕ, Bool, true, false, min, List, [], ◌∷◌, ◌++◌, length, take, All, Option, Some, None}
+use Rattle.std.specs.Prelude.{◌≡◌, ◌+◌, ℕ, Bool, true, false, min, List, [], ◌∷◌, ◌++◌, length, take, All, Option, Some, None}
 use Rattle.etp_replay.specs.declared.proof.Lemma.{Lemma}
 use Rattle.etp_replay.specs.declared.label.Label.{Label}
 use Rattle.etp_items.specs.Bodies.{FileBody, proof, proof_of}
