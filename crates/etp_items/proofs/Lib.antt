@@ -6,3 +6,4 @@ pub mod WorkLemmas
 pub mod ReaderLemmas
 pub mod OneBody
 pub mod OneRefusal
+pub mod WrittenLemmas

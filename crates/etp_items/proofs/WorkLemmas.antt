@@ -14,7 +14,7 @@ use Rattle.etp_items.specs.Reading.{lemma_lines, within, after, may_step}
 use Rattle.etp_items.specs.Work.{place_with}
 use Rattle.etp_items.proofs.SideLemmas.{map_end}
 
-lines_end : (ls : List Lemma) (l : Lemma) → lemma_lines (ls ++ l ∷ []) ≡ lemma_lines ls ++ (lemma l.start ∷ (map step l.steps ++ []))
+pub lines_end : (ls : List Lemma) (l : Lemma) → lemma_lines (ls ++ l ∷ []) ≡ lemma_lines ls ++ (lemma l.start ∷ (map step l.steps ++ []))
 lines_end [] l = refl
 lines_end (m ∷ ms) l =
     ap (λ z. lemma m.start ∷ (map step m.steps ++ z)) (lines_end ms l)

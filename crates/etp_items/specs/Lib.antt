@@ -5,4 +5,5 @@ pub mod BodyLines
 pub mod Said
 pub mod Reading
 pub mod Work
+pub mod Written
 pub mod Theorems

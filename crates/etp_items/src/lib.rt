@@ -10,6 +10,7 @@ mod reader;
 mod refusal;
 mod words;
 mod work;
+mod writing;
 
 pub use body::Body;
 pub use lines::{Version, lemma_line, step_line};
@@ -17,6 +18,7 @@ pub use numbers::number_word;
 pub use reader::BodyReader;
 pub use refusal::BodyRefusal;
 pub use words::{is, is_comment, next_word, skip_blanks};
+pub use writing::body_text;
 
 /// Lines are one body or have one refusal.
 pub fn body_laws()

@@ -1,0 +1,56 @@
+-- Bodies as they are written.
+use Rattle.std.specs.Prelude.{ℕ, Bool, true, false, not, ◌||◌, List, [], ◌∷◌, ◌++◌, map, codes, decimal, if◌then◌else◌}
+use Rattle.std.specs.List.{list_any}
+use Rattle.etp_theory.specs.Positions.{Side, to_left, to_right}
+use Rattle.etp_theory.specs.Proofs.{ProofStep, Lemma}
+use Rattle.etp_text.specs.Written.{written_term}
+use Rattle.etp_items.specs.Bodies.{ProofBody, FileBody, proof}
+use Rattle.etp_items.specs.BodyLines.{Version, plain, citing, version_word, Line, heading, cite, lemma, step}
+use Rattle.etp_items.specs.Reading.{lines_said}
+
+abbrev pub reference_word : ProofStep → List ℕ
+reference_word x = if x.cited then codes "c" ++ decimal x.line else decimal x.line
+
+abbrev pub direction_word : Bool → List ℕ
+direction_word reversed = if reversed then codes "<" else codes ">"
+
+abbrev pub side_letter : Side → ℕ
+side_letter to_left = 108
+side_letter to_right = 114
+
+abbrev pub position_word : List Side → List ℕ
+position_word [] = codes "."
+position_word (side ∷ sides) = side_letter side ∷ map side_letter sides
+
+-- the words of a line, one space between two
+abbrev pub written_line : Line → List ℕ
+written_line (heading version hypothesis goal) = version_word version ++ codes " " ++ decimal hypothesis ++ codes " " ++ decimal goal
+written_line (cite name) = codes "cite " ++ name
+written_line (lemma start) = codes "lemma " ++ written_term start
+written_line (step x) = codes "step " ++ reference_word x ++ codes " " ++ direction_word x.reversed ++ codes " " ++ position_word x.position ++ codes " " ++ written_term x.to
+
+-- each line ends with a newline
+abbrev pub written_lines : List Line → List ℕ
+written_lines [] = []
+written_lines (line ∷ lines) = written_line line ++ 10 ∷ written_lines lines
+
+abbrev pub is_cited : ProofStep → Bool
+is_cited x = x.cited
+
+abbrev pub has_cited : Lemma → Bool
+has_cited l = list_any is_cited l.steps
+
+abbrev pub is_empty : List (List ℕ) → Bool
+is_empty [] = true
+is_empty (name ∷ names) = false
+
+-- the proof has a cite or a step by one
+abbrev pub is_citing : ProofBody → Bool
+is_citing p = not (is_empty p.cites) || list_any has_cited p.lemmas
+
+-- only such a proof is written as one that may cite files
+abbrev pub version_for : ProofBody → Version
+version_for p = if is_citing p then citing else plain
+
+abbrev pub written_body : FileBody → List ℕ
+written_body (proof p) = written_lines (lines_said (version_for p) p)
