@@ -7,3 +7,4 @@ pub mod ReaderLemmas
 pub mod OneBody
 pub mod OneRefusal
 pub mod WrittenLemmas
+pub mod ReadBack

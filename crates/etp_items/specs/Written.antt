@@ -22,12 +22,19 @@ abbrev pub position_word : List Side → List ℕ
 position_word [] = codes "."
 position_word (side ∷ sides) = side_letter side ∷ map side_letter sides
 
--- the words of a line, one space between two
+-- words with one space between two
+abbrev pub spaced : List (List ℕ) → List ℕ
+spaced [] = []
+spaced (word ∷ []) = word
+spaced (word ∷ next ∷ words) = word ++ 32 ∷ spaced (next ∷ words)
+
 abbrev pub written_line : Line → List ℕ
-written_line (heading version hypothesis goal) = version_word version ++ codes " " ++ decimal hypothesis ++ codes " " ++ decimal goal
-written_line (cite name) = codes "cite " ++ name
-written_line (lemma start) = codes "lemma " ++ written_term start
-written_line (step x) = codes "step " ++ reference_word x ++ codes " " ++ direction_word x.reversed ++ codes " " ++ position_word x.position ++ codes " " ++ written_term x.to
+written_line (heading version hypothesis goal) =
+    spaced (version_word version ∷ decimal hypothesis ∷ decimal goal ∷ [])
+written_line (cite name) = spaced (codes "cite" ∷ name ∷ [])
+written_line (lemma start) = spaced (codes "lemma" ∷ written_term start ∷ [])
+written_line (step x) =
+    spaced (codes "step" ∷ reference_word x ∷ direction_word x.reversed ∷ position_word x.position ∷ written_term x.to ∷ [])
 
 -- each line ends with a newline
 abbrev pub written_lines : List Line → List ℕ

@@ -1,4 +1,4 @@
-ghost use Rattle.std.specs.Prelude.{◌≡◌, ◌++◌, ◌∷◌, [], map, OnOk, IfOk};
+ghost use Rattle.std.specs.Prelude.{◌≡◌, ◌++◌, ◌∷◌, [], codes, map, OnOk, IfOk};
 ghost use Rattle.std.specs.List.{list_any};
 ghost use Rattle.etp_term.specs.Sides as Sides;
 ghost use Rattle.etp_term.specs.Sides.{position_of};
@@ -9,7 +9,7 @@ ghost use Rattle.etp_items.specs.BodyLines as Lines;
 ghost use Rattle.etp_items.specs.BodyLines.{heading, cite};
 ghost use Rattle.etp_items.specs.Said.{version_of};
 ghost use Rattle.etp_items.specs.Reading.{lemma_lines};
-ghost use Rattle.etp_items.specs.Written.{reference_word, direction_word, side_letter, position_word, written_line, written_lines, is_citing, version_for, written_body};
+ghost use Rattle.etp_items.specs.Written.{reference_word, direction_word, side_letter, position_word, spaced, written_line, written_lines, is_citing, version_for, written_body};
 
 use crate::body::Body;
 use crate::lines::Version;
@@ -140,15 +140,27 @@ fn append_steps(text: &mut Text, steps: &[Step]) -> Result<(), NoMemory>
 fn append_step(text: &mut Text, step: &Step) -> Result<(), NoMemory>
     ensures { OnOk result (text.new ≡ text.old ++ written_lines (Lines.step (step_of step.now) ∷ [])) }
 {
-    text.append(b"step ")?;
-    append_reference(text, step)?;
-    text.append(b" ")?;
-    text.append(if step.reversed { b"<" } else { b">" })?;
-    text.append(b" ")?;
-    append_position(text, step.position.as_slice())?;
-    text.append(b" ")?;
+    append_step_words(text, step)?;
     text.append_term(&step.to)?;
     text.append(b"\n")
+}
+
+/// Appends what stands before the term of a step.
+fn append_step_words(text: &mut Text, step: &Step) -> Result<(), NoMemory>
+    ensures { OnOk result (text.new ≡ text.old ++ spaced (codes "step" ∷ reference_word (step_of step.now) ∷ direction_word step.now.reversed ∷ position_word (position_of step.now.position) ∷ [] ∷ [])) }
+{
+    text.append(b"step ")?;
+    append_reference(text, step)?;
+    text.append(direction(step.reversed))?;
+    append_position(text, step.position.as_slice())?;
+    text.append(b" ")
+}
+
+/// The sign of a step's direction, with a space on each side.
+fn direction(reversed: bool) -> &'static [u8]
+    ensures { result.now ≡ 32 ∷ (direction_word reversed ++ 32 ∷ []) }
+{
+    if reversed { b" < " } else { b" > " }
 }
 
 fn append_reference(text: &mut Text, step: &Step) -> Result<(), NoMemory>
