@@ -8,3 +8,4 @@ pub mod OneBody
 pub mod OneRefusal
 pub mod WrittenLemmas
 pub mod ReadBack
+pub mod WrittenReads

@@ -1,5 +1,5 @@
 -- Written lines say what they were written of.
-use Rattle.std.proofs.Common.{◌≡◌, ℕ, zero, suc, ◌+◌, ◌<◌, ◌≤◌, ◌^◌, arith, rules, Bool, true, false, cond, not, ◌&&◌, ◌||◌, nat_le, nat_eq, List, [], ◌∷◌, ◌++◌, length, get_or, slice_get, map, codes, decimal, refl, sym, ap, subst, ◌∙◌, ◌⊎◌, inl, inr, Option, Some, None, append-nil}
+use Rattle.std.proofs.Common.{◌≡◌, ℕ, zero, suc, ◌<◌, ◌≤◌, ◌^◌, arith, rules, Bool, true, false, cond, ◌&&◌, ◌||◌, nat_le, nat_eq, List, [], ◌∷◌, ◌++◌, length, get_or, slice_get, map, codes, decimal, refl, sym, ap, ◌∙◌, ◌⊎◌, inl, inr, Some, append-nil}
 use Rattle.std.specs.List.{list_all, AllByRecursion}
 use Rattle.std.specs.Option.{option_map}
 use Rattle.std.proofs.lemmas.Bool.{le-leb, leb-true, ne_eqb}
@@ -36,20 +36,20 @@ pub decimal_number : (n : ℕ) → n < 2 ^ 32 → number_of (decimal n) ≡ Some
 decimal_number n h =
     number_then (decimal n) n (decimal_digits n h) (decimal_nonempty n (small n h)) (length-decimal-le 10 n (omega arith) (omega (arith, h)) (small n h)) (digits_value-decimal own n (small n h)) (omega (arith, h))
 
-both : (a b : Bool) → (a && b) ≡ true → (a ≡ true) × (b ≡ true)
+pub both : (a b : Bool) → (a && b) ≡ true → (a ≡ true) × (b ≡ true)
 both true true h = (refl, refl)
 both true false h = (refl, h)
 both false b h = absurd (cc)
 
-either : (a b : Bool) → (a || b) ≡ true → (a ≡ true) ⊎ (b ≡ true)
+pub either : (a b : Bool) → (a || b) ≡ true → (a ≡ true) ⊎ (b ≡ true)
 either true b h = inl refl
 either false b h = inr h
 
-neither : (a b : Bool) → (a || b) ≡ false → (a ≡ false) × (b ≡ false)
+pub neither : (a b : Bool) → (a || b) ≡ false → (a ≡ false) × (b ≡ false)
 neither true b h = absurd (cc)
 neither false b h = (refl, h)
 
-together : (a b : Bool) → a ≡ true → b ≡ true → (a && b) ≡ true
+pub together : (a b : Bool) → a ≡ true → b ≡ true → (a && b) ≡ true
 together a b h k = rw (h, k) refl
 
 -- bytes of words, and bytes of words and spaces
@@ -63,10 +63,10 @@ weaker : (p q : ℕ → Bool) → ((b : ℕ) → p b ≡ true → q b ≡ true) 
 weaker p q f [] h = refl
 weaker p q f (b ∷ w) h = let s = both (p b) (list_all p w) h in together (q b) (list_all q w) (f b s.0) (weaker p q f w s.1)
 
-joined : (p : ℕ → Bool) (v w : List ℕ) → list_all p v ≡ true → list_all p w ≡ true → list_all p (v ++ w) ≡ true
+pub joined : (p : ℕ → Bool) (v w : List ℕ) → list_all p v ≡ true → list_all p w ≡ true → list_all p (v ++ w) ≡ true
 joined p v w h k = list_all-append p v w ∙ together (list_all p v) (list_all p w) h k
 
-graph_text : (w : List ℕ) → list_all is_graph w ≡ true → list_all is_text w ≡ true
+pub graph_text : (w : List ℕ) → list_all is_graph w ≡ true → list_all is_text w ≡ true
 graph_text = weaker is_graph is_text (λ b h. let k : 33 ≤ b = leb-true 33 b h in le-leb 32 b (omega arith))
 
 no_blank : (b : ℕ) → is_graph b ≡ true → is_blank b ≡ false

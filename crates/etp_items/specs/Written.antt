@@ -1,12 +1,16 @@
 -- Bodies as they are written.
-use Rattle.std.specs.Prelude.{ℕ, Bool, true, false, not, ◌||◌, List, [], ◌∷◌, ◌++◌, map, codes, decimal, if◌then◌else◌}
+use Rattle.std.specs.Prelude.{◌<◌, ◌≤◌, ◌^◌, ℕ, length, All, Some, None, Bool, true, false, not, ◌||◌, List, [], ◌∷◌, ◌++◌, map, codes, decimal, if◌then◌else◌}
 use Rattle.std.specs.List.{list_any}
+use Rattle.etp_theory.specs.Trees.{bound, leaves}
 use Rattle.etp_theory.specs.Positions.{Side, to_left, to_right}
 use Rattle.etp_theory.specs.Proofs.{ProofStep, Lemma}
 use Rattle.etp_text.specs.Written.{written_term}
+use Rattle.etp_text.specs.Refusals.{side_limit}
+use Rattle.etp_io.specs.Texts.{LineText, whole, too_long, lines_of}
+use Rattle.etp_replay.specs.Names.{IsName}
 use Rattle.etp_items.specs.Bodies.{ProofBody, FileBody, proof}
 use Rattle.etp_items.specs.BodyLines.{Version, plain, citing, version_word, Line, heading, cite, lemma, step}
-use Rattle.etp_items.specs.Reading.{lines_said}
+use Rattle.etp_items.specs.Reading.{GivenLine, cite_limit, lines_said}
 
 abbrev pub reference_word : ProofStep → List ℕ
 reference_word x = if x.cited then codes "c" ++ decimal x.line else decimal x.line
@@ -61,3 +65,30 @@ version_for p = if is_citing p then citing else plain
 
 abbrev pub written_body : FileBody → List ℕ
 written_body (proof p) = written_lines (lines_said (version_for p) p)
+
+-- the line can be written so that it is read back: names are names, numbers are below 2^32, and terms have
+-- variables with a name and at most 255 leaves
+abbrev pub IsWritable : Line → Type 0
+IsWritable (heading version hypothesis goal) = (hypothesis < 2 ^ 32) × (goal < 2 ^ 32)
+IsWritable (cite name) = IsName name
+IsWritable (lemma start) = (bound start ≤ 64) × (leaves start ≤ side_limit)
+IsWritable (step x) = (x.line < 2 ^ 32) × (bound x.to ≤ 64) × (leaves x.to ≤ side_limit)
+
+-- the line is written in at most 4096 bytes
+abbrev pub IsShort : Line → Type 0
+IsShort line = length (written_line line) ≤ 4096
+
+-- the body is complete, and each of its lines can be written and is short
+abbrev pub IsWritableBody : FileBody → Type 0
+IsWritableBody (proof p) =
+    (0 < length p.lemmas) × (length p.cites ≤ cite_limit) × All IsWritable (lines_said (version_for p) p)
+    × All IsShort (lines_said (version_for p) p)
+
+-- a line of a text, as a reader is given it
+abbrev pub given_line : LineText → GivenLine
+given_line (whole line) = Some line
+given_line too_long = None
+
+-- the lines of a text
+abbrev pub given_lines : List ℕ → List GivenLine
+given_lines text = map given_line (lines_of text)
