@@ -24,3 +24,6 @@ pub use writing::body_text;
 pub fn body_laws()
     ensures { BodyLaws }
 {}
+
+#[cfg(test)]
+mod tests;
