@@ -7,3 +7,4 @@ pub mod Goals
 pub mod Judged
 pub mod OneStep
 pub mod OneVerdict
+pub mod LastStep

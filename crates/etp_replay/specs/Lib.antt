@@ -1,6 +1,7 @@
 pub mod Values
 pub mod Steps
 pub mod Lemmas
+pub mod Growing
 pub mod Lines
 pub mod Names
 pub mod Replay

@@ -127,6 +127,13 @@ impl Cites {
         self.labels.get(at as usize)
     }
 
+    /// All names.
+    pub fn as_slice(&self) -> &[Label]
+        ensures { result.now ≡ self.now }
+    {
+        self.labels.as_slice()
+    }
+
     /// Appends a name.
     pub fn push(&mut self, label: Label) -> Result<(), NoMemory>
         requires { length self.old < 4294967295 }

@@ -5,11 +5,12 @@ ghost use Rattle.etp_term.specs.Terms.{tree_of};
 ghost use Rattle.etp_term.specs.Laws.{equation_of};
 ghost use Rattle.etp_replay.specs.Lemmas.{step_of, lemma_of};
 ghost use Rattle.etp_replay.specs.Lines.{sides_of};
+ghost use Rattle.etp_replay.specs.Growing.{with_last_step};
 
 use crate::checking::Sides;
 use crate::label::Cites;
 use etp_term::{Law, NoMemory, Position, Term};
-use std::alloc::Global;
+use std::alloc::{AllocError, Global};
 use std::marker::Model;
 
 /// A step of a lemma from the term before it to the term `to`, at a position, by an equation. The
@@ -181,6 +182,20 @@ impl Lemmas {
     {
         self.lemmas.push(lemma)?;
         Ok(())
+    }
+
+    /// Appends a step to the last lemma. A lemma of more than 4294967295 steps is want of memory too.
+    pub fn push_step(&mut self, step: Step) -> Result<(), NoMemory>
+        requires { 0 < length self.old }
+        ensures ok { OnOk result (self.new ≡ with_last_step self.old step) }
+        ensures err { OnErr result (self.new ≡ self.old) }
+    {
+        let last = self.lemmas.len() - 1;
+        let lemma = &mut self.lemmas[last];
+        if lemma.steps.len() == u32::MAX {
+            return Err(AllocError);
+        }
+        lemma.steps.push(step)
     }
 
     /// All lemmas.

@@ -1,0 +1,11 @@
+pub mod WordLemmas
+pub mod SideLemmas
+pub mod OneLine
+pub mod ReadingLemmas
+pub mod WorkLemmas
+pub mod ReaderLemmas
+pub mod OneBody
+pub mod OneRefusal
+pub mod WrittenLemmas
+pub mod ReadBack
+pub mod WrittenReads

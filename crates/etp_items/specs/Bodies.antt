@@ -1,0 +1,29 @@
+-- What the lines of a file say, without the program's types.
+use Rattle.std.specs.Prelude.{ℕ, List, map}
+use Rattle.etp_theory.specs.Proofs.{Lemma}
+use Rattle.etp_replay.specs.Lemmas.{lemma_of}
+use Rattle.etp_replay.specs.declared.proof.Proof.{Proof}
+use Rattle.etp_items.specs.declared.body.Body.{Body}
+use Rattle.etp_items.specs.declared.body.Body.TheVariants as Program
+
+-- a proof of the law numbered `goal` from the one numbered `hypothesis` by lemmas,
+-- which may use what the files of the cited names prove
+pub record ProofBody : Type 0 where
+  pub hypothesis : ℕ
+  pub goal : ℕ
+  pub cites : List (List ℕ)
+  pub lemmas : List Lemma
+
+pub data FileBody : Type 0 where
+  proof : ProofBody → FileBody
+
+abbrev pub proof_of : Proof → ProofBody
+proof_of p = record {
+  hypothesis = p.hypothesis;
+  goal = p.goal;
+  cites = p.cites;
+  lemmas = map lemma_of p.lemmas;
+}
+
+abbrev pub body_of : Body → FileBody
+body_of (Program.Proof p) = proof (proof_of p)

@@ -1,0 +1,35 @@
+-- Which lines and versions the values of the program stand for.
+use Rattle.std.specs.Prelude.{◌≡◌, ◌∷◌, ℕ, Bool, List, Some, codes}
+use Rattle.etp_term.specs.Terms.{tree_of}
+use Rattle.etp_replay.specs.Lemmas.{step_of}
+use Rattle.etp_items.specs.BodyLines.{Version, plain, citing, Line, heading, cite, lemma, step, reference_of, reversed_of}
+use Rattle.etp_items.specs.Words.{words_of, behind_word}
+use Rattle.etp_items.specs.declared.lines.Version as Program
+use Rattle.etp_items.specs.declared.lines.Version.TheVariants.{Plain, Citing}
+use Rattle.etp_items.specs.declared.lines.Said.{Said}
+use Rattle.etp_items.specs.declared.lines.Said.TheVariants.{Heading, Cite, Lemma, Step}
+use Rattle.etp_items.specs.declared.lines.Reference.{Reference}
+use Rattle.etp_items.specs.declared.lines.StepWords.{StepWords}
+
+abbrev pub version_of : Program.Version → Version
+version_of Plain = plain
+version_of Citing = citing
+
+abbrev pub named_by : Reference → ℕ × Bool
+named_by r = (r.line, r.cited)
+
+abbrev pub line_of : Said → Line
+line_of (Heading h) = heading (version_of h.version) h.hypothesis h.goal
+line_of (Cite name) = cite name
+line_of (Lemma t) = lemma (tree_of t)
+line_of (Step x) = step (step_of x)
+
+-- the line has these words of a step, and this text where its term stands
+pub record HasStepWords (line : List ℕ) (w : StepWords) : Type 0 where
+  pub reference : List ℕ
+  pub direction : List ℕ
+  pub more : List (List ℕ)
+  pub words : words_of line ≡ codes "step" ∷ reference ∷ direction ∷ w.position.now ∷ more
+  pub by : reference_of reference ≡ Some (named_by w.reference)
+  pub read : reversed_of direction ≡ Some w.reversed
+  pub term : w.term.now ≡ behind_word (behind_word (behind_word (behind_word line)))

@@ -1,0 +1,22 @@
+-- What ties lines, bodies and refusals together.
+use Rattle.std.specs.Prelude.{◌≡◌, ℕ, Bool, List}
+use Rattle.etp_items.specs.Bodies.{FileBody}
+use Rattle.etp_items.specs.BodyLines.{Line, Says, IsBlankLine}
+use Rattle.etp_items.specs.Reading.{GivenLine, IsBody, IsReadBody, Refuses}
+use Rattle.etp_items.specs.Written.{written_body, IsWritableBody, given_lines}
+use Rattle.etp_items.specs.declared.refusal.BodyRefusal.{BodyRefusal}
+
+pub record BodyLaws : Type 0 where
+  -- a line says one thing, and a blank line nothing
+  pub one_line : (line : List ℕ) (l m : Line) → Says line l → Says line m → l ≡ m
+  pub blank_line : (line : List ℕ) (l : Line) → IsBlankLine line → Says line l → ⊥
+  -- lines are one body
+  pub one_body : (lines : List GivenLine) (b c : FileBody) → IsBody lines b → IsBody lines c → b ≡ c
+  -- lines that are a closed body with listed numbers aren't refused
+  pub body_stands : (count : ℕ) (lines : List GivenLine) (closed : Bool) (b : FileBody) (r : BodyRefusal)
+      → IsReadBody count lines closed b → Refuses count lines closed r → ⊥
+  -- and lines that are refused have one refusal
+  pub one_refusal : (count : ℕ) (lines : List GivenLine) (closed : Bool) (r s : BodyRefusal)
+      → Refuses count lines closed r → Refuses count lines closed s → r ≡ s
+  -- the written form of a body, read again, is the body
+  pub written_body_reads : (b : FileBody) → IsWritableBody b → IsBody (given_lines (written_body b)) b

@@ -1,0 +1,94 @@
+-- Bodies as they are written.
+use Rattle.std.specs.Prelude.{◌<◌, ◌≤◌, ◌^◌, ℕ, length, All, Some, None, Bool, true, false, not, ◌||◌, List, [], ◌∷◌, ◌++◌, map, codes, decimal, if◌then◌else◌}
+use Rattle.std.specs.List.{list_any}
+use Rattle.etp_theory.specs.Trees.{bound, leaves}
+use Rattle.etp_theory.specs.Positions.{Side, to_left, to_right}
+use Rattle.etp_theory.specs.Proofs.{ProofStep, Lemma}
+use Rattle.etp_text.specs.Written.{written_term}
+use Rattle.etp_text.specs.Refusals.{side_limit}
+use Rattle.etp_io.specs.Texts.{LineText, whole, too_long, lines_of}
+use Rattle.etp_replay.specs.Names.{IsName}
+use Rattle.etp_items.specs.Bodies.{ProofBody, FileBody, proof}
+use Rattle.etp_items.specs.BodyLines.{Version, plain, citing, version_word, Line, heading, cite, lemma, step}
+use Rattle.etp_items.specs.Reading.{GivenLine, cite_limit, lines_said}
+
+abbrev pub reference_word : ProofStep → List ℕ
+reference_word x = if x.cited then codes "c" ++ decimal x.line else decimal x.line
+
+abbrev pub direction_word : Bool → List ℕ
+direction_word reversed = if reversed then codes "<" else codes ">"
+
+abbrev pub side_letter : Side → ℕ
+side_letter to_left = 108
+side_letter to_right = 114
+
+abbrev pub position_word : List Side → List ℕ
+position_word [] = codes "."
+position_word (side ∷ sides) = side_letter side ∷ map side_letter sides
+
+-- words with one space between two
+abbrev pub spaced : List (List ℕ) → List ℕ
+spaced [] = []
+spaced (word ∷ []) = word
+spaced (word ∷ next ∷ words) = word ++ 32 ∷ spaced (next ∷ words)
+
+abbrev pub written_line : Line → List ℕ
+written_line (heading version hypothesis goal) =
+    spaced (version_word version ∷ decimal hypothesis ∷ decimal goal ∷ [])
+written_line (cite name) = spaced (codes "cite" ∷ name ∷ [])
+written_line (lemma start) = spaced (codes "lemma" ∷ written_term start ∷ [])
+written_line (step x) =
+    spaced (codes "step" ∷ reference_word x ∷ direction_word x.reversed ∷ position_word x.position ∷ written_term x.to ∷ [])
+
+-- each line ends with a newline
+abbrev pub written_lines : List Line → List ℕ
+written_lines [] = []
+written_lines (line ∷ lines) = written_line line ++ 10 ∷ written_lines lines
+
+abbrev pub is_cited : ProofStep → Bool
+is_cited x = x.cited
+
+abbrev pub has_cited : Lemma → Bool
+has_cited l = list_any is_cited l.steps
+
+abbrev pub is_empty : List (List ℕ) → Bool
+is_empty [] = true
+is_empty (name ∷ names) = false
+
+-- the proof has a cite or a step by one
+abbrev pub is_citing : ProofBody → Bool
+is_citing p = not (is_empty p.cites) || list_any has_cited p.lemmas
+
+-- only such a proof is written as one that may cite files
+abbrev pub version_for : ProofBody → Version
+version_for p = if is_citing p then citing else plain
+
+abbrev pub written_body : FileBody → List ℕ
+written_body (proof p) = written_lines (lines_said (version_for p) p)
+
+-- the line can be written so that it is read back: names are names, numbers are below 2^32, and terms have
+-- variables with a name and at most 255 leaves
+abbrev pub IsWritable : Line → Type 0
+IsWritable (heading version hypothesis goal) = (hypothesis < 2 ^ 32) × (goal < 2 ^ 32)
+IsWritable (cite name) = IsName name
+IsWritable (lemma start) = (bound start ≤ 64) × (leaves start ≤ side_limit)
+IsWritable (step x) = (x.line < 2 ^ 32) × (bound x.to ≤ 64) × (leaves x.to ≤ side_limit)
+
+-- the line is written in at most 4096 bytes
+abbrev pub IsShort : Line → Type 0
+IsShort line = length (written_line line) ≤ 4096
+
+-- the body is complete, and each of its lines can be written and is short
+abbrev pub IsWritableBody : FileBody → Type 0
+IsWritableBody (proof p) =
+    (0 < length p.lemmas) × (length p.cites ≤ cite_limit) × All IsWritable (lines_said (version_for p) p)
+    × All IsShort (lines_said (version_for p) p)
+
+-- a line of a text, as a reader is given it
+abbrev pub given_line : LineText → GivenLine
+given_line (whole line) = Some line
+given_line too_long = None
+
+-- the lines of a text
+abbrev pub given_lines : List ℕ → List GivenLine
+given_lines text = map given_line (lines_of text)

@@ -1,0 +1,8 @@
+use etp_replay::Proof;
+
+/// What the lines of a file say.
+#[derive(Drop)]
+pub enum Body {
+    /// A proof of one law from another by rewriting.
+    Proof(Proof),
+}
