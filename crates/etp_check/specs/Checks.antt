@@ -3,8 +3,9 @@ use Rattle.std.specs.Prelude.{◌≡◌, ◌<◌, ℕ, List, All, IsSome, length
 use Rattle.etp_theory.specs.Trees.{Equation}
 use Rattle.etp_theory.specs.Derivations.{Derives}
 use Rattle.etp_theory.specs.Proofs.{AllDerived, IsValidProof}
-use Rattle.etp_theory.specs.Reach.{Fact, implies}
+use Rattle.etp_theory.specs.Reach.{Fact, implies, refutes}
 use Rattle.etp_laws.specs.LawLists.{entry_at}
+use Rattle.etp_closure.specs.Closures.{IsLaw}
 use Rattle.etp_replay.specs.Validity.{law_at}
 use Rattle.etp_items.specs.Bodies.{FileBody, ProofBody, proof}
 
@@ -24,9 +25,18 @@ IsListedBody laws (proof p) = HasListedLaws laws p
 abbrev pub HasContent : FileBody → Type 0
 HasContent (proof p) = 0 < length p.lemmas
 
+-- all laws that the fact names are among so many laws
+abbrev pub HasLaws : ℕ → Fact → Type 0
+HasLaws count (implies hypothesis goal) = IsLaw count hypothesis × IsLaw count goal
+HasLaws count (refutes holds fails) = All (IsLaw count) holds × All (IsLaw count) fails
+
 -- the names of the files that a body cites
 abbrev pub cites_of : FileBody → List (List ℕ)
 cites_of (proof p) = p.cites
+
+-- the law from which a body proves, and from which the files that it cites must prove too
+abbrev pub hypothesis_of : FileBody → ℕ
+hypothesis_of (proof p) = p.hypothesis
 
 -- one listed number for each cite
 pub record AreCitedNumbers (laws : List Equation) (body : FileBody) (cited : List ℕ) : Type 0 where
