@@ -1,0 +1,93 @@
+-- Why the ledger refuses.
+use Rattle.std.specs.Prelude.{◌≡◌, ◌≢◌, ◌⊎◌, ◌+◌, ℕ, List, Option, Some, None, All, slice_get, take}
+use Rattle.etp_theory.specs.Reach.{implies}
+use Rattle.etp_laws.specs.LawLists.{LawList}
+use Rattle.etp_items.specs.Bodies.{FileBody}
+use Rattle.etp_closure.specs.Closures.{IsLaw}
+use Rattle.etp_check.specs.Checks.{fact_said, hypothesis_of, cites_of}
+use Rattle.etp_check.specs.Refusals.{IsFirstOffence}
+use Rattle.etp_check.specs.declared.refusal.CheckRefusal.{CheckRefusal}
+use Rattle.etp_check.specs.declared.refusal.CheckRefusal.TheVariants as Checked
+use Rattle.etp_ledger.specs.Files.{File, body_named, Stands, StandsAsProof, cited_goals}
+use Rattle.etp_ledger.specs.Withdrawing.{IsFirstCiting}
+use Rattle.etp_ledger.specs.declared.refusal.LedgerRefusal.{LedgerRefusal}
+use Rattle.etp_ledger.specs.declared.refusal.LedgerRefusal.TheVariants.{NameTaken, NoSuchName, Check, UnknownLaw, Cited, CiteMissing, CiteOther, NoMemory}
+
+-- a file that stands is no proof from the hypothesis
+abbrev pub ProvesOther : ℕ → Option FileBody → Type 0
+ProvesOther hypothesis None = ⊥
+ProvesOther hypothesis (Some body) = (goal : ℕ) → fact_said body ≢ implies hypothesis goal
+
+-- the cite of this number names no file, or it names a file that is no proof from the hypothesis
+abbrev pub IsCiteRefused : List File → ℕ → List ℕ → ℕ → LedgerRefusal → Type 0
+IsCiteRefused files hypothesis name number (CiteMissing cite) =
+    (cite ≡ number) × (body_named name files ≡ None)
+IsCiteRefused files hypothesis name number (CiteOther cite) =
+    (cite ≡ number) × ProvesOther hypothesis (body_named name files)
+IsCiteRefused files hypothesis name number NameTaken = ⊥
+IsCiteRefused files hypothesis name number NoSuchName = ⊥
+IsCiteRefused files hypothesis name number (Check r) = ⊥
+IsCiteRefused files hypothesis name number (UnknownLaw n) = ⊥
+IsCiteRefused files hypothesis name number (Cited by) = ⊥
+IsCiteRefused files hypothesis name number NoMemory = ⊥
+
+-- all cites before one stand for proofs from the hypothesis, and that one is refused; cites count
+-- from 1
+pub record IsFirstCiteRefused (files : List File) (hypothesis : ℕ) (names : List (List ℕ))
+    (r : LedgerRefusal) : Type 0 where
+  pub place : ℕ
+  pub name : List ℕ
+  pub cited : slice_get names place ≡ Some name
+  pub before : All (StandsAsProof files hypothesis) (take place names)
+  pub refused : IsCiteRefused files hypothesis name (place + 1) r
+
+-- want of memory, or the first cite that is refused
+abbrev pub AreCitesRefused : List File → ℕ → List (List ℕ) → LedgerRefusal → Type 0
+AreCitesRefused files hypothesis names r =
+    (r ≡ NoMemory) ⊎ IsFirstCiteRefused files hypothesis names r
+
+-- all cites are right, and the body isn't valid with their goals
+abbrev pub IsOffence : LawList → List File → FileBody → CheckRefusal → Type 0
+IsOffence l files body (Checked.Replay r) =
+    All (StandsAsProof files (hypothesis_of body)) (cites_of body)
+    × IsFirstOffence l body (cited_goals files body) r
+IsOffence l files body Checked.NoMemory = ⊥
+
+-- the name stands; else the first wrong cite; else the body's first offence; want of memory may
+-- come for any file
+abbrev pub IsFileRefused : LawList → List File → List ℕ → FileBody → LedgerRefusal → Type 0
+IsFileRefused l files name body NameTaken = Stands files name
+IsFileRefused l files name body (CiteMissing cite) =
+    (body_named name files ≡ None)
+    × IsFirstCiteRefused files (hypothesis_of body) (cites_of body) (CiteMissing cite)
+IsFileRefused l files name body (CiteOther cite) =
+    (body_named name files ≡ None)
+    × IsFirstCiteRefused files (hypothesis_of body) (cites_of body) (CiteOther cite)
+IsFileRefused l files name body (Check r) = (body_named name files ≡ None) × IsOffence l files body r
+IsFileRefused l files name body NoMemory = Unit {0}
+IsFileRefused l files name body NoSuchName = ⊥
+IsFileRefused l files name body (UnknownLaw number) = ⊥
+IsFileRefused l files name body (Cited by) = ⊥
+
+-- the name doesn't stand; else a file cites it
+abbrev pub IsWithdrawalRefused : List File → List ℕ → LedgerRefusal → Type 0
+IsWithdrawalRefused files name NoSuchName = body_named name files ≡ None
+IsWithdrawalRefused files name (Cited by) = Stands files name × IsFirstCiting files name by
+IsWithdrawalRefused files name NameTaken = ⊥
+IsWithdrawalRefused files name (Check r) = ⊥
+IsWithdrawalRefused files name (UnknownLaw number) = ⊥
+IsWithdrawalRefused files name (CiteMissing cite) = ⊥
+IsWithdrawalRefused files name (CiteOther cite) = ⊥
+IsWithdrawalRefused files name NoMemory = ⊥
+
+-- the first of two numbers that is none of the laws 1 to the count
+abbrev pub IsQuestionRefused : ℕ → ℕ → ℕ → LedgerRefusal → Type 0
+IsQuestionRefused count e f (UnknownLaw number) =
+    ((number ≡ e) × ¬ IsLaw count e) ⊎ ((number ≡ f) × IsLaw count e × ¬ IsLaw count f)
+IsQuestionRefused count e f NameTaken = ⊥
+IsQuestionRefused count e f NoSuchName = ⊥
+IsQuestionRefused count e f (Check r) = ⊥
+IsQuestionRefused count e f (Cited by) = ⊥
+IsQuestionRefused count e f (CiteMissing cite) = ⊥
+IsQuestionRefused count e f (CiteOther cite) = ⊥
+IsQuestionRefused count e f NoMemory = ⊥

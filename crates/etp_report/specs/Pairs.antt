@@ -1,0 +1,33 @@
+-- How many pairs of laws have an answer.
+use Rattle.std.specs.Prelude.{ℕ, zero, suc, ◌+◌, Bool, true, false, length}
+use Rattle.etp_bits.specs.Counts.{count_below}
+use Rattle.etp_closure.specs.Closures.{Known}
+use Rattle.etp_closure.specs.Answers.{answer_of}
+use Rattle.etp_closure.specs.declared.facts.Answer.{Answer}
+use Rattle.etp_closure.specs.declared.facts.Answer.TheVariants.{Implied, Refuted, Unsettled}
+
+-- both answers are the same
+abbrev pub is_same : Answer → Answer → Bool
+is_same Implied Implied = true
+is_same Implied Refuted = false
+is_same Implied Unsettled = false
+is_same Refuted Implied = false
+is_same Refuted Refuted = true
+is_same Refuted Unsettled = false
+is_same Unsettled Implied = false
+is_same Unsettled Refuted = false
+is_same Unsettled Unsettled = true
+
+-- the sum of the values at the numbers below a bound
+abbrev pub sum_below : (ℕ → ℕ) → ℕ → ℕ
+sum_below values zero = 0
+sum_below values (suc n) = sum_below values n + values n
+
+-- how many laws have the answer as the second of a pair with law e
+abbrev pub laws_answered : Known → Answer → ℕ → ℕ
+laws_answered known answer e =
+    count_below (λ place. is_same (answer_of known e (place + 1)) answer) (length known.duals)
+
+-- how many of all ordered pairs of laws have the answer
+unfoldable pub pairs_answered : Known → Answer → ℕ
+pairs_answered known answer = sum_below (λ place. laws_answered known answer (place + 1)) (length known.duals)
