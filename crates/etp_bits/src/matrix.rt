@@ -152,6 +152,13 @@ impl Matrix {
         self.columns = columns;
     }
 
+    /// How many rows there are.
+    pub fn rows(&self) -> u32
+        ensures { result ≡ self.now.rows }
+    {
+        self.rows
+    }
+
     /// The bit in a row and a column.
     pub fn get(&self, row: u32, column: u32) -> bool
         requires row_in { row < self.now.rows }
