@@ -2,7 +2,7 @@
 use Rattle.std.proofs.Common.{◌≡◌, ◌≢◌, ℕ, zero, suc, ◌+◌, ◌<◌, Bool, true, false, ◌&&◌, ◌||◌, nat_eq, List, [], ◌∷◌, length, get_or, take, refl, sym, ap, ◌∙◌, ◌⊎◌, inl, inr, arith}
 use Rattle.std.specs.List.{list_any}
 use Rattle.std.proofs.lemmas.Bool.{or_cases, or_left, or_right, eq-eqb, ne_eqb}
-use Rattle.etp_closure.specs.Tables.{IsClosed, MarksUncovered}
+use Rattle.etp_closure.specs.Tables.{IsClosed, MarksUncovered, MarksLaw, marked, left}
 
 -- one law more of the list
 pub any_more : (p : ℕ → Bool) (xs : List ℕ) (n : ℕ) → n < length xs → list_any p (take (n + 1) xs) ≡ (list_any p (take n xs) || p (get_or xs n 0))
@@ -94,12 +94,12 @@ uncovered_same marks line c r row xs n s h at law before = record {
       ];
 }
 
-pub uncovered_marked : (marks line : ℕ → Bool) (c r : ℕ → ℕ → Bool) (row : ℕ → ℕ) (xs : List ℕ) (n s : ℕ) → n < length xs → row (get_or xs n 0) ≡ s
-    → IsClosed r c → marks s ≡ true
+pub uncovered_seen : (marks line seen : ℕ → Bool) (c r : ℕ → ℕ → Bool) (row : ℕ → ℕ) (xs : List ℕ) (n s : ℕ) → n < length xs → row (get_or xs n 0) ≡ s
+    → IsClosed r c → ((k : ℕ) → seen k ≡ list_any (λ law. r (row law) k) (take n xs)) → seen s ≡ true
     → Uncovered marks line c r row (take n xs) → Uncovered marks line c r row (take (n + 1) xs)
-uncovered_marked marks line c r row xs n s h at closed on before =
+uncovered_seen marks line seen c r row xs n s h at closed all on before =
     uncovered_same marks line c r row xs n s h at
-    (λ k step. before.complete k (any_onward r row (take n xs) s k closed.onward (before.sound s on) step)) before
+    (λ k step. before.complete k (any_onward r row (take n xs) s k closed.onward (sym (all s) ∙ on) step)) before
 
 pub uncovered_covered : (marks line : ℕ → Bool) (c r : ℕ → ℕ → Bool) (row : ℕ → ℕ) (xs : List ℕ) (n s : ℕ) → n < length xs → row (get_or xs n 0) ≡ s
     → IsClosed r c → ((k : ℕ) → line k ≡ true → c s k ≡ true)
@@ -123,11 +123,25 @@ uncovered_more marks new line c r row xs n s h at joined before = record {
         | inr added ↦ inl (joined k ∙ or_right (marks k) (r s k) (ap (λ m. r m k) (sym at) ∙ added))
         | inl old ↦
             elim (before.complete k old) [
-              | inl marked ↦ inl (joined k ∙ or_left (marks k) (r s k) marked)
+              | inl there ↦ inl (joined k ∙ or_left (marks k) (r s k) there)
               | inr covered ↦ inr covered
             ]
       ];
 }
+
+-- one law more by its own marks
+pub uncovered_law : (marks new line : ℕ → Bool) (c r : ℕ → ℕ → Bool) (row : ℕ → ℕ) (xs : List ℕ) (n s : ℕ) → n < length xs → row (get_or xs n 0) ≡ s
+    → IsClosed r c → MarksLaw marks new line (c s) (r s)
+    → Uncovered marks line c r row (take n xs) → Uncovered new line c r row (take (n + 1) xs)
+uncovered_law marks new line c r row xs n s h at closed (marked joined) before = uncovered_more marks new line c r row xs n s h at joined before
+uncovered_law marks new line c r row xs n s h at closed (left same all) before =
+    uncovered_covered new line c r row xs n s h at closed all
+    (record { sound = λ k on. before.sound k (sym (same k) ∙ on); complete = λ k on. elim (before.complete k on) [ inl there ↦ inl (same k ∙ there) | inr covered ↦ inr covered ] })
+
+pub law_by_line : (marks new line other covered reached : ℕ → Bool) → ((k : ℕ) → line k ≡ other k) → MarksLaw marks new line covered reached
+    → MarksLaw marks new other covered reached
+law_by_line marks new line other covered reached same (marked joined) = marked joined
+law_by_line marks new line other covered reached same (left stays all) = left stays (λ k on. all k (same k ∙ on))
 
 -- a row joined to one row of marks, as that row and the others see it
 pub row_into : (old new : ℕ → ℕ → Bool) (into : ℕ) (line : ℕ → Bool) → ((r c : ℕ) → new r c ≡ (old r c || (nat_eq r into && line c)))

@@ -57,6 +57,11 @@ pub record MarksUncovered (marks row : ℕ → Bool) (covered : ℕ → ℕ → 
   pub sound : (law : ℕ) → marks law ≡ true → named law ≡ true
   pub complete : (law : ℕ) → named law ≡ true → (marks law ≡ true) ⊎ ((other : ℕ) → row other ≡ true → covered law other ≡ true)
 
+-- what a law reaches is marked, or nothing is where the law is covered against all of a row
+pub data MarksLaw (old new row covered reached : ℕ → Bool) : Type 0 where
+  marked : ((law : ℕ) → new law ≡ (old law || reached law)) → MarksLaw old new row covered reached
+  left : ((law : ℕ) → new law ≡ old law) → ((law : ℕ) → row law ≡ true → covered law ≡ true) → MarksLaw old new row covered reached
+
 -- more laws have slots, and the slots that were there stay
 pub record Extends (old_slots old_laws new_slots new_laws : List ℕ) : Type 0 where
   pub same_size : length new_slots ≡ length old_slots

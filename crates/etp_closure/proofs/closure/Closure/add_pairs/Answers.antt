@@ -33,7 +33,7 @@ bits c x y =
     let first = rw (c.deref.ensures.value, c.deref-2.ensures.value) at c.mark_joined.ensures.bits in
     let second = rw (c.deref-3.ensures.value, c.deref-4.ensures.value) at c.mark_uncovered.ensures.uncovered in
     refuted_bits (bit m.covered) (bit c.join_marked.new.self) (bit c.mark_uncovered.new.marks 0) (bit c.mark_joined.new.marks 1) (λ k. list_any (λ law. bit m.reached (row law) k) c.args.holds.now) second
-    (λ u v. c.join_marked.ensures.bits u v ∙ ap (λ b. bit m.covered u v || (bit c.mark_uncovered.new.marks 0 u && b)) (c.mark_uncovered.ensures.others 1 v (λ e. (omega (arith, e))))) x y
+    (λ u v. c.join_marked.ensures.bits u v ∙ ap (λ b. bit m.covered u v || (bit c.mark_uncovered.new.marks 0 u && b)) (c.mark_uncovered.ensures.line v)) x y
     ∙ ap (λ b. bit m.covered x y || (list_any (λ law. bit m.reached (row law) x) c.args.holds.now && b)) (first y ∙ any_turned m.reached m.reaching row c.args.fails.now y c.self.invariant.turned)
 
 pub invariant_of-self : goal.invariant_of-self
