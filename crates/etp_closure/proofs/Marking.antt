@@ -1,8 +1,8 @@
 -- Marks for the laws of a list.
-use Rattle.std.proofs.Common.{◌≡◌, ◌≢◌, ℕ, zero, suc, ◌+◌, ◌<◌, Bool, true, false, ◌&&◌, ◌||◌, nat_eq, List, [], ◌∷◌, length, get_or, take, refl, sym, ap, ◌∙◌, ◌⊎◌, inl, inr, arith}
+use Rattle.std.proofs.Common.{◌≡◌, ◌≢◌, ℕ, zero, suc, ◌+◌, ◌<◌, Bool, true, false, ◌&&◌, ◌||◌, nat_eq, List, [], ◌∷◌, length, get_or, take, Option, Some, None, unwrap_or, refl, sym, ap, ◌∙◌, ◌⊎◌, inl, inr, arith}
 use Rattle.std.specs.List.{list_any}
 use Rattle.std.proofs.lemmas.Bool.{or_cases, or_left, or_right, eq-eqb, ne_eqb}
-use Rattle.etp_closure.specs.Tables.{IsClosed, MarksUncovered, MarksLaw, marked, left}
+use Rattle.etp_closure.specs.Tables.{IsClosed, MarksUncovered, MarksLaw, was_marked, was_reached, is_found, is_added, reached_from}
 
 -- one law more of the list
 pub any_more : (p : ℕ → Bool) (xs : List ℕ) (n : ℕ) → n < length xs → list_any p (take (n + 1) xs) ≡ (list_any p (take n xs) || p (get_or xs n 0))
@@ -94,12 +94,12 @@ uncovered_same marks line c r row xs n s h at law before = record {
       ];
 }
 
-pub uncovered_seen : (marks line seen : ℕ → Bool) (c r : ℕ → ℕ → Bool) (row : ℕ → ℕ) (xs : List ℕ) (n s : ℕ) → n < length xs → row (get_or xs n 0) ≡ s
-    → IsClosed r c → ((k : ℕ) → seen k ≡ list_any (λ law. r (row law) k) (take n xs)) → seen s ≡ true
+uncovered_marked : (marks line : ℕ → Bool) (c r : ℕ → ℕ → Bool) (row : ℕ → ℕ) (xs : List ℕ) (n s : ℕ) → n < length xs → row (get_or xs n 0) ≡ s
+    → IsClosed r c → marks s ≡ true
     → Uncovered marks line c r row (take n xs) → Uncovered marks line c r row (take (n + 1) xs)
-uncovered_seen marks line seen c r row xs n s h at closed all on before =
+uncovered_marked marks line c r row xs n s h at closed on before =
     uncovered_same marks line c r row xs n s h at
-    (λ k step. before.complete k (any_onward r row (take n xs) s k closed.onward (sym (all s) ∙ on) step)) before
+    (λ k step. before.complete k (any_onward r row (take n xs) s k closed.onward (before.sound s on) step)) before
 
 pub uncovered_covered : (marks line : ℕ → Bool) (c r : ℕ → ℕ → Bool) (row : ℕ → ℕ) (xs : List ℕ) (n s : ℕ) → n < length xs → row (get_or xs n 0) ≡ s
     → IsClosed r c → ((k : ℕ) → line k ≡ true → c s k ≡ true)
@@ -129,19 +129,55 @@ uncovered_more marks new line c r row xs n s h at joined before = record {
       ];
 }
 
--- one law more by its own marks
-pub uncovered_law : (marks new line : ℕ → Bool) (c r : ℕ → ℕ → Bool) (row : ℕ → ℕ) (xs : List ℕ) (n s : ℕ) → n < length xs → row (get_or xs n 0) ≡ s
-    → IsClosed r c → MarksLaw marks new line (c s) (r s)
-    → Uncovered marks line c r row (take n xs) → Uncovered new line c r row (take (n + 1) xs)
-uncovered_law marks new line c r row xs n s h at closed (marked joined) before = uncovered_more marks new line c r row xs n s h at joined before
-uncovered_law marks new line c r row xs n s h at closed (left same all) before =
-    uncovered_covered new line c r row xs n s h at closed all
-    (record { sound = λ k on. before.sound k (sym (same k) ∙ on); complete = λ k on. elim (before.complete k on) [ inl there ↦ inl (same k ∙ there) | inr covered ↦ inr covered ] })
+-- the last law that was found to be covered is so
+abbrev pub LastCovered : (ℕ → Bool) → (ℕ → ℕ → Bool) → Option ℕ → Type 0
+LastCovered line c last = (s : ℕ) → last ≡ Some s → (k : ℕ) → line k ≡ true → c s k ≡ true
 
-pub law_by_line : (marks new line other covered reached : ℕ → Bool) → ((k : ℕ) → line k ≡ other k) → MarksLaw marks new line covered reached
-    → MarksLaw marks new other covered reached
-law_by_line marks new line other covered reached same (marked joined) = marked joined
-law_by_line marks new line other covered reached same (left stays all) = left stays (λ k on. all k (same k ∙ on))
+pub last_none : (line : ℕ → Bool) (c : ℕ → ℕ → Bool) → LastCovered line c None
+last_none line c s at = (cc (at))
+
+pub last_more : (marks new line : ℕ → Bool) (r c : ℕ → ℕ → Bool) (s : ℕ) (last next : Option ℕ) → MarksLaw marks new line r c s last next
+    → LastCovered line c last → LastCovered line c next
+last_more marks new line r c s last next (was_marked on same stays) known = λ t at. known t (sym stays ∙ at)
+last_more marks new line r c s last next (was_reached on same stays) known = λ t at. known t (sym stays ∙ at)
+last_more marks new line r c s last next (is_found all same is) known =
+    λ t at k on. (let equal : s ≡ t = some_same s t (sym is ∙ at) in ap (λ n. c n k) (sym equal) ∙ all k on)
+  where
+    some_same : (a b : ℕ) → Some a ≡ Some b → a ≡ b
+    some_same a b e = ap (λ (o : Option ℕ). unwrap_or o 0) e
+last_more marks new line r c s last next (is_added joined stays) known = λ t at. known t (sym stays ∙ at)
+
+same_marks : (marks new line : ℕ → Bool) (c : ℕ → ℕ → Bool) (named : ℕ → Bool) → ((k : ℕ) → new k ≡ marks k)
+    → MarksUncovered marks line c named → MarksUncovered new line c named
+same_marks marks new line c named same before = record {
+  sound = λ k on. before.sound k (sym (same k) ∙ on);
+  complete = λ k on. elim (before.complete k on) [ inl there ↦ inl (same k ∙ there) | inr covered ↦ inr covered ];
+}
+
+from_last : (line : ℕ → Bool) (r c : ℕ → ℕ → Bool) (s : ℕ) (last : Option ℕ) → IsClosed r c → reached_from r last s ≡ true
+    → LastCovered line c last → (k : ℕ) → line k ≡ true → c s k ≡ true
+from_last line r c s None closed on known = (cc (on))
+from_last line r c s (Some t) closed on known = λ k marked. closed.moves_on t k s (known t refl k marked) on
+
+-- one law more
+pub uncovered_law : (marks new line : ℕ → Bool) (c r : ℕ → ℕ → Bool) (row : ℕ → ℕ) (xs : List ℕ) (n s : ℕ) (last next : Option ℕ)
+    → n < length xs → row (get_or xs n 0) ≡ s → IsClosed r c → LastCovered line c last → MarksLaw marks new line r c s last next
+    → Uncovered marks line c r row (take n xs) → Uncovered new line c r row (take (n + 1) xs)
+uncovered_law marks new line c r row xs n s last next h at closed known (was_marked on same stays) before =
+    same_marks marks new line c _ same (uncovered_marked marks line c r row xs n s h at closed on before)
+uncovered_law marks new line c r row xs n s last next h at closed known (was_reached on same stays) before =
+    same_marks marks new line c _ same (uncovered_covered marks line c r row xs n s h at closed (from_last line r c s last closed on known) before)
+uncovered_law marks new line c r row xs n s last next h at closed known (is_found all same is) before =
+    same_marks marks new line c _ same (uncovered_covered marks line c r row xs n s h at closed all before)
+uncovered_law marks new line c r row xs n s last next h at closed known (is_added joined stays) before =
+    uncovered_more marks new line c r row xs n s h at joined before
+
+pub law_by_line : (marks new line other : ℕ → Bool) (r c : ℕ → ℕ → Bool) (s : ℕ) (last next : Option ℕ) → ((k : ℕ) → line k ≡ other k)
+    → MarksLaw marks new line r c s last next → MarksLaw marks new other r c s last next
+law_by_line marks new line other r c s last next same (was_marked on stays is) = was_marked on stays is
+law_by_line marks new line other r c s last next same (was_reached on stays is) = was_reached on stays is
+law_by_line marks new line other r c s last next same (is_found all stays is) = is_found (λ k on. all k (same k ∙ on)) stays is
+law_by_line marks new line other r c s last next same (is_added joined is) = is_added joined is
 
 -- a row joined to one row of marks, as that row and the others see it
 pub row_into : (old new : ℕ → ℕ → Bool) (into : ℕ) (line : ℕ → Bool) → ((r c : ℕ) → new r c ≡ (old r c || (nat_eq r into && line c)))

@@ -1,5 +1,5 @@
 -- What the loops over rows of reached and covered pairs keep.
-use Rattle.std.specs.Prelude.{◌≡◌, ℕ, ◌≤◌, ◌<◌, true, false, Bool, not, ◌&&◌, ◌||◌, ◌^◌, List, Contains, slice_index, length, Some, unwrap_or, if◌then◌else◌, ◌⊎◌}
+use Rattle.std.specs.Prelude.{◌≡◌, ℕ, ◌≤◌, ◌<◌, true, false, Bool, not, ◌&&◌, ◌||◌, ◌^◌, List, Contains, slice_index, length, Option, Some, None, unwrap_or, if◌then◌else◌, ◌⊎◌}
 use Rattle.etp_bits.specs.Bits.{Bits, bit}
 use Rattle.etp_theory.specs.Reach.{dual_number}
 use Rattle.etp_closure.specs.Closures.{slot_of, IsKept, IsOwnInverse}
@@ -57,10 +57,20 @@ pub record MarksUncovered (marks row : ℕ → Bool) (covered : ℕ → ℕ → 
   pub sound : (law : ℕ) → marks law ≡ true → named law ≡ true
   pub complete : (law : ℕ) → named law ≡ true → (marks law ≡ true) ⊎ ((other : ℕ) → row other ≡ true → covered law other ≡ true)
 
--- what a law reaches is marked, or nothing is where the law is covered against all of a row
-pub data MarksLaw (old new row covered reached : ℕ → Bool) : Type 0 where
-  marked : ((law : ℕ) → new law ≡ (old law || reached law)) → MarksLaw old new row covered reached
-  left : ((law : ℕ) → new law ≡ old law) → ((law : ℕ) → row law ≡ true → covered law ≡ true) → MarksLaw old new row covered reached
+-- whether there is a first law and the second is reached from it
+abbrev pub reached_from : (ℕ → ℕ → Bool) → Option ℕ → ℕ → Bool
+reached_from reached None second = false
+reached_from reached (Some first) second = reached first second
+
+-- a law is marked already, or reached from the last law that is known to be covered against all of a row,
+-- or is found to be covered so itself, or what it reaches is marked
+pub data MarksLaw (old new row : ℕ → Bool) (reached covered : ℕ → ℕ → Bool) (slot : ℕ) (last next : Option ℕ) : Type 0 where
+  was_marked : old slot ≡ true → ((law : ℕ) → new law ≡ old law) → next ≡ last → MarksLaw old new row reached covered slot last next
+  was_reached : reached_from reached last slot ≡ true → ((law : ℕ) → new law ≡ old law) → next ≡ last
+      → MarksLaw old new row reached covered slot last next
+  is_found : ((law : ℕ) → row law ≡ true → covered slot law ≡ true) → ((law : ℕ) → new law ≡ old law) → next ≡ Some slot
+      → MarksLaw old new row reached covered slot last next
+  is_added : ((law : ℕ) → new law ≡ (old law || reached slot law)) → next ≡ last → MarksLaw old new row reached covered slot last next
 
 -- more laws have slots, and the slots that were there stay
 pub record Extends (old_slots old_laws new_slots new_laws : List ℕ) : Type 0 where

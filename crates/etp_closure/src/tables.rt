@@ -1,9 +1,9 @@
 // Loops over the rows of reached and covered pairs.
-ghost use Rattle.std.specs.Prelude.{◌≡◌, ◌≢◌, ℕ, ◌<◌, ◌≤◌, true, false, ◌&&◌, ◌||◌, nat_eq, nat_lt, nat_le, if◌then◌else◌, is_ok, All, Some, length};
+ghost use Rattle.std.specs.Prelude.{◌≡◌, ◌≢◌, ℕ, ◌<◌, ◌≤◌, true, false, ◌&&◌, ◌||◌, nat_eq, nat_lt, nat_le, if◌then◌else◌, is_ok, All, Some, IfSome, length};
 ghost use Rattle.etp_bits.specs.Bits.{bit, SameSizes};
 ghost use Rattle.std.specs.List.{list_any};
 ghost use Rattle.etp_closure.specs.Closures.{IsLaw, IsKept, slot_of, bit_by_slots};
-ghost use Rattle.etp_closure.specs.Tables.{IsSquare, IsMarks, IsTurned, IsClosed, MarksEdge, MarksLaw, MarksUncovered, moved_along, image_of, row_of};
+ghost use Rattle.etp_closure.specs.Tables.{IsSquare, IsMarks, IsTurned, IsClosed, MarksEdge, MarksLaw, MarksUncovered, moved_along, reached_from, image_of, row_of};
 
 use crate::slots::{kept_slot, slot_at};
 use etp_bits::Matrix;
@@ -212,9 +212,8 @@ pub(crate) fn mark_joined(
     }
 }
 
-// Marks in the third row what the laws of a list reach, or what their duals reach, and in the first
-// row the same, but for laws that are covered against all of the second row's marks already. Neither
-// row has a mark yet. A law of the third row adds nothing.
+// Marks in the first row, which has no mark yet, what the laws of a list reach, or what their duals
+// reach, but for laws that are covered against all of the second row's marks already.
 pub(crate) fn mark_uncovered(
     marks: &mut Matrix,
     reached: &Matrix,
@@ -224,43 +223,66 @@ pub(crate) fn mark_uncovered(
     dual: bool,
     list: &[u32],
 )
-    requires marks_rows { 2 < marks.old.rows }
+    requires marks_rows { 1 < marks.old.rows }
     requires narrow { reached.now.columns ≤ marks.old.columns }
     requires wide { marks.old.columns ≤ covered.now.columns }
     requires unmarked { (c : ℕ) → bit marks.old 0 c ≡ false }
-    requires unseen { (c : ℕ) → bit marks.old 2 c ≡ false }
     requires closed { IsClosed (bit reached.now) (bit covered.now) }
     requires list_in { All (IsLaw (length duals.now)) list.now }
     requires kept { All (λ law. IsKept slots.now (image_of duals.now dual law)) list.now }
-    requires rows { (law slot : ℕ) → slot_of slots.now law ≡ Some slot → (slot < reached.now.rows) × (slot < covered.now.rows) × (slot < marks.old.columns) }
+    requires rows { (law slot : ℕ) → slot_of slots.now law ≡ Some slot → (slot < reached.now.rows) × (slot < covered.now.rows) × (slot < reached.now.columns) }
     ensures sizes { SameSizes marks.old marks.new }
     ensures line { (c : ℕ) → bit marks.new 1 c ≡ bit marks.old 1 c }
     ensures uncovered { MarksUncovered (bit marks.new 0) (bit marks.old 1) (bit covered.now) (λ c. list_any (λ law. bit reached.now (row_of slots.now (image_of duals.now dual law)) c) list.now) }
 {
+    let mut last = None;
     for law in list {
         let slot = kept_slot(slots, image(duals, dual, *law));
-        if !marks.get(2, slot) {
-            mark_law(marks, reached, covered, slot);
-        }
+        last = mark_law(marks, reached, covered, slot, last);
     }
 }
 
-// Marks in the third row what a law reaches, and in the first row too unless the law is covered
-// against all of the second row's marks.
-fn mark_law(marks: &mut Matrix, reached: &Matrix, covered: &Matrix, slot: u32)
-    requires marks_rows { 2 < marks.old.rows }
+// Marks in the first row what a law reaches, unless it is marked itself or covered against all of the
+// second row's marks, as the last law that was found to be covered and all that it reaches are. Gives
+// the last such law.
+fn mark_law(
+    marks: &mut Matrix,
+    reached: &Matrix,
+    covered: &Matrix,
+    slot: u32,
+    last: Option<u32>,
+) -> Option<u32>
+    requires marks_rows { 1 < marks.old.rows }
     requires narrow { reached.now.columns ≤ marks.old.columns }
     requires wide { marks.old.columns ≤ covered.now.columns }
-    requires in_reached { slot < reached.now.rows }
+    requires row_in { slot < reached.now.rows }
+    requires column_in { slot < reached.now.columns }
     requires in_covered { slot < covered.now.rows }
+    requires last_in { IfSome last (λ row. row < reached.now.rows) }
     ensures sizes { SameSizes marks.old marks.new }
     ensures line { (c : ℕ) → bit marks.new 1 c ≡ bit marks.old 1 c }
-    ensures seen { (c : ℕ) → bit marks.new 2 c ≡ (bit marks.old 2 c || bit reached.now slot c) }
-    ensures marked { MarksLaw (bit marks.old 0) (bit marks.new 0) (bit marks.old 1) (bit covered.now slot) (bit reached.now slot) }
+    ensures last_in { IfSome result (λ row. row < reached.now.rows) }
+    ensures marked { MarksLaw (bit marks.old 0) (bit marks.new 0) (bit marks.old 1) (bit reached.now) (bit covered.now) slot last result }
 {
-    marks.join_row(2, reached, slot);
-    if !covered.has_all(slot, marks, 1) {
-        marks.join_row(0, reached, slot);
+    if marks.get(0, slot) || is_reached_from(reached, last, slot) {
+        return last;
+    }
+    if covered.has_all(slot, marks, 1) {
+        return Some(slot);
+    }
+    marks.join_row(0, reached, slot);
+    last
+}
+
+// Whether there is a first law, by its slot, and the second is reached from it.
+fn is_reached_from(reached: &Matrix, first: Option<u32>, second: u32) -> bool
+    requires first_in { IfSome first (λ row. row < reached.now.rows) }
+    requires second_in { second < reached.now.columns }
+    ensures { result ≡ reached_from (bit reached.now) first second }
+{
+    match first {
+        None => false,
+        Some(first) => reached.get(first, second),
     }
 }
 
