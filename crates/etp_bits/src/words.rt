@@ -109,12 +109,11 @@ pub(crate) fn any_without(
     ensures found { IsTrue result → LitInOne words.now other.now at from count }
     ensures none { LitInOne words.now other.now at from count → IsTrue result }
 {
+    let mut rest = 0;
     for place in 0..count {
-        if words[at + place] & !other[from + place] != 0 {
-            return true;
-        }
+        rest |= words[at + place] & !other[from + place];
     }
-    false
+    rest != 0
 }
 
 // How many of these words have a bit on.
