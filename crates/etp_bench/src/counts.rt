@@ -1,4 +1,8 @@
 // How many pairs of laws have each answer.
+ghost use Rattle.std.specs.Prelude.{◌≡◌, ◌+◌, ◌*◌, not, ◌&&◌, length};
+ghost use Rattle.etp_closure.specs.Closures.{is_reached, is_covered};
+ghost use Rattle.etp_bench.specs.Filling.{count_pairs};
+
 use etp_closure::Closure;
 use std::fmt;
 
@@ -11,19 +15,23 @@ pub struct AnswerCounts {
 }
 
 /// The counts of each answer over all pairs of laws.
-pub fn totals(closure: &Closure) -> AnswerCounts {
-    let mut implied: u64 = 0;
-    let mut refuted: u64 = 0;
+pub fn totals(closure: &Closure) -> AnswerCounts
+    ensures implied { result.implied ≡ count_pairs (is_reached closure.now) (length closure.now.duals) (length closure.now.duals) }
+    ensures refuted { result.refuted ≡ count_pairs (λ e f. is_covered closure.now e f && not (is_reached closure.now e f)) (length closure.now.duals) (length closure.now.duals) }
+    ensures all { result.implied + result.refuted + result.«open» ≡ length closure.now.duals * length closure.now.duals }
+{
+    let mut implied = 0;
+    let mut refuted = 0;
     for place in 0..closure.size() {
         let counts = closure.row_counts(place + 1);
-        implied = implied.saturating_add(counts.implied as u64);
-        refuted = refuted.saturating_add(counts.refuted as u64);
+        implied += counts.implied as u64;
+        refuted += counts.refuted as u64;
     }
     let pairs = closure.size() as u64 * closure.size() as u64;
     AnswerCounts {
         implied,
         refuted,
-        open: pairs.saturating_sub(implied).saturating_sub(refuted),
+        open: pairs - implied - refuted,
     }
 }
 

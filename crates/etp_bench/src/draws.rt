@@ -20,7 +20,9 @@ pub struct Implication {
 
 impl Draws {
     /// The generator at its first state.
-    pub fn start() -> Draws {
+    pub fn start() -> Draws
+        ensures { result.state ≡ 1 }
+    {
         Draws { state: 1 }
     }
 

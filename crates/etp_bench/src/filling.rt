@@ -1,7 +1,8 @@
 // A closure that keeps every law, and facts added to it.
-ghost use Rattle.std.specs.Prelude.{◌≡◌, [], ℕ, ◌↔◌, All, IfOk, Contains, length};
+ghost use Rattle.std.specs.Prelude.{◌≡◌, ◌++◌, [], ℕ, ◌↔◌, All, IfOk, Contains, List, map, length};
+ghost use Rattle.etp_theory.specs.Reach.{Fact};
 ghost use Rattle.etp_closure.specs.Closures.{IsLaw, StandsFor};
-ghost use Rattle.etp_bench.specs.Filling.{IsFull, IsBetweenLaws};
+ghost use Rattle.etp_bench.specs.Filling.{IsFull, IsBetweenLaws, fact_of};
 
 use crate::draws::Implication;
 use etp_closure::Closure;
@@ -38,6 +39,7 @@ pub fn add_implications(closure: &mut Closure, implications: &[Implication])
     requires implications_in { All (IsBetweenLaws (length closure.old.duals)) implications.now }
     ensures duals { closure.new.duals ≡ closure.old.duals }
     ensures slots { closure.new.slots ≡ closure.old.slots }
+    ensures stands { (facts : List Fact) → StandsFor closure.old facts → StandsFor closure.new (facts ++ map fact_of implications.now) }
 {
     for implication in implications {
         closure.add_implication(implication.hypothesis, implication.goal);

@@ -1,4 +1,6 @@
 // The words of the command line.
+ghost use Rattle.std.specs.Prelude.{◌≡◌, ◌*◌};
+
 use std::{env, io};
 
 /// How many facts are drawn.
@@ -12,7 +14,9 @@ pub struct Sizes {
 
 impl Sizes {
     /// How many laws are drawn for the lists of all refutations.
-    pub fn drawn_laws(self) -> u64 {
+    pub fn drawn_laws(self) -> u64
+        ensures { result ≡ 2 * self.refutations * self.laws }
+    {
         2 * self.refutations as u64 * self.laws as u64
     }
 }

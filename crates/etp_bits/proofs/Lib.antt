@@ -1,3 +1,4 @@
 pub mod Counting
 mod Lines
 mod Rows
+mod Joins

@@ -83,7 +83,7 @@ read_bit rows columns stride words row column h k =
     ap (λ b. nat_eq b 1) (shr_and_one (slice_index words (row * stride + column / 64)) (column % 64))
     ∙ sym (bit_within rows columns stride words row column h k)
 
-either_bit : (a b : ℕ) → a < 2 → b < 2 → nat_eq (max a b) 1 ≡ (nat_eq a 1 || nat_eq b 1)
+pub either_bit : (a b : ℕ) → a < 2 → b < 2 → nat_eq (max a b) 1 ≡ (nat_eq a 1 || nat_eq b 1)
 either_bit zero zero h k = refl
 either_bit zero (suc zero) h k = refl
 either_bit (suc zero) zero h k = refl
@@ -97,7 +97,7 @@ or_none true b h = refl
 or_none false b h = sym h
 
 -- the bits of the words after a row was joined
-joined_lit : (old new other : List ℕ) (stride into from count row column : ℕ)
+pub joined_lit : (old new other : List ℕ) (stride into from count row column : ℕ)
     → JoinsWords old new other (into * stride) from count → count ≤ stride → column < 64 * stride
     → lit new (row * stride) column
     ≡ (lit old (row * stride) column || (nat_eq row into && (nat_lt (column / 64) count && lit other from column)))
@@ -127,7 +127,7 @@ joined_lit old new other stride into from count row column h narrow within =
     ]
 
 -- a row's bits, by as many words as its columns need
-needed_lit : (rows columns stride count : ℕ) (words : List ℕ) (row column : ℕ) → IsLaidOut rows columns stride count words
+pub needed_lit : (rows columns stride count : ℕ) (words : List ℕ) (row column : ℕ) → IsLaidOut rows columns stride count words
     → row < rows
     → (nat_lt (column / 64) ((columns + 63) / 64) && lit words (row * stride) column)
     ≡ bit (bits_of rows columns stride words) row column

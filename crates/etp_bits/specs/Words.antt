@@ -1,6 +1,6 @@
 -- How rows of bits lie in a list of words of 64 bits: column c of a row that begins at place
 -- `start` is bit c % 64 of the word at place start + c / 64.
-use Rattle.std.specs.Prelude.{◌≡◌, ℕ, ◌+◌, ◌*◌, ◌/◌, ◌%◌, ◌^◌, ◌<◌, ◌≤◌, List, Bool, true, false, nat_eq, slice_index, map, bit_or}
+use Rattle.std.specs.Prelude.{◌≡◌, ℕ, ◌+◌, ◌*◌, ◌/◌, ◌%◌, ◌^◌, ◌<◌, ◌≤◌, ◌||◌, List, Bool, true, false, nat_eq, slice_index, map, bit_or, length}
 use Rattle.std.specs.List.{range_with_len}
 use Rattle.std.specs.Int.{bit_at}
 use Rattle.etp_bits.specs.Bits.{Bits}
@@ -32,12 +32,25 @@ pub record JoinsWords (old new other : List ℕ) (into from count : ℕ) : Type 
   pub before : (place : ℕ) → place < into → slice_index new place ≡ slice_index old place
   pub after : (place : ℕ) → into + count ≤ place → slice_index new place ≡ slice_index old place
 
+-- the bits of the rows of the first words with further bits on
+pub record JoinsBits (old new : List ℕ) (stride : ℕ) (further : ℕ → ℕ → Bool) : Type 0 where
+  pub same_size : length new ≡ length old
+  pub bits : (row column : ℕ) → column < 64 * stride
+      → lit new (row * stride) column ≡ (lit old (row * stride) column || further row column)
+
 -- some column of `count` words is on in both
 pub record LitInBoth (words other : List ℕ) (at from count : ℕ) : Type 0 where
   pub column : ℕ
   pub within : column < 64 * count
   pub here : lit words at column ≡ true
   pub there : lit other from column ≡ true
+
+-- some column of `count` words is on in the first and off in the other
+pub record LitInOne (words other : List ℕ) (at from count : ℕ) : Type 0 where
+  pub column : ℕ
+  pub within : column < 64 * count
+  pub here : lit words at column ≡ true
+  pub not_there : lit other from column ≡ false
 
 -- each row has its old words, and then words that are 0
 pub record Spreads (old new : List ℕ) (rows stride wider : ℕ) : Type 0 where

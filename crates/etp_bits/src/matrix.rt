@@ -1,9 +1,12 @@
-ghost use Rattle.std.specs.Prelude.{◌≡◌, ℕ, ◌+◌, ◌*◌, ◌/◌, ◌^◌, ◌<◌, ◌≤◌, not, ◌&&◌, ◌||◌, nat_eq, IsTrue, IfOk, OnOk, OnErr, length, vec_len};
+ghost use Rattle.std.specs.Prelude.{◌≡◌, ℕ, ◌+◌, ◌*◌, ◌/◌, ◌^◌, ◌<◌, ◌≤◌, not, ◌&&◌, ◌||◌, nat_eq, nat_lt, IsTrue, ◌↔◌, IfOk, OnOk, OnErr, length, vec_len};
 ghost use Rattle.etp_bits.specs.Bits.{bit, IsBlank, Resizes, SameSizes, Shares};
 ghost use Rattle.etp_bits.specs.Counts.{count_below};
-ghost use Rattle.etp_bits.specs.Words.{Spreads, Regrows};
+ghost use Rattle.etp_bits.specs.Words.{lit, Spreads, Regrows};
 
-use crate::words::{any_shared, count_on, count_without, join_within, join_words};
+use crate::words::{
+    any_shared, any_without, count_on, count_without, join_to_rows, join_within, join_without,
+    join_words,
+};
 use std::alloc::{AllocError, Global};
 use std::marker::Model;
 
@@ -149,6 +152,13 @@ impl Matrix {
         self.columns = columns;
     }
 
+    /// How many rows there are.
+    pub fn rows(&self) -> u32
+        ensures { result ≡ self.now.rows }
+    {
+        self.rows
+    }
+
     /// The bit in a row and a column.
     pub fn get(&self, row: u32, column: u32) -> bool
         requires row_in { row < self.now.rows }
@@ -202,6 +212,69 @@ impl Matrix {
             from as usize * other.stride,
             count,
         );
+    }
+
+    /// Joins to a row the bits of a row of another matrix that are off in a further row of it.
+    pub fn join_difference(&mut self, into: u32, other: &Matrix, from: u32, without: u32)
+        requires into_in { into < self.old.rows }
+        requires from_in { from < other.now.rows }
+        requires without_in { without < other.now.rows }
+        requires narrow { other.now.columns ≤ self.old.columns }
+        ensures sizes { SameSizes self.old self.new }
+        ensures bits { (r c : ℕ) → bit self.new r c ≡ (bit self.old r c || (nat_eq r into && (bit other.now from c && not (bit other.now without c)))) }
+    {
+        let count = words_for(other.columns);
+        join_without(
+            &mut self.words,
+            self.stride,
+            into as usize,
+            &other.words,
+            from as usize * other.stride,
+            without as usize * other.stride,
+            count,
+        );
+    }
+
+    /// Joins a row of another matrix to each row whose number is a column that is on in a further
+    /// row of it.
+    pub fn join_marked(&mut self, other: &Matrix, marked: u32, line: u32)
+        requires marked_in { marked < other.now.rows }
+        requires line_in { line < other.now.rows }
+        requires narrow { other.now.columns ≤ self.old.columns }
+        requires tall { other.now.columns ≤ self.old.rows }
+        ensures sizes { SameSizes self.old self.new }
+        ensures bits { (r c : ℕ) → bit self.new r c ≡ (bit self.old r c || (bit other.now marked r && bit other.now line c)) }
+    {
+        let stride = self.stride;
+        join_to_rows(&mut self.words, stride, other.row(marked), other.row(line));
+    }
+
+    // The words of a row that its columns need.
+    fn row(&self, row: u32) -> &[u64]
+        requires { row < self.now.rows }
+        ensures len { length result.now ≡ (self.now.columns + 63) / 64 }
+        ensures bits { (c : ℕ) → (nat_lt (c / 64) (length result.now) && lit result.now 0 c) ≡ bit self.now row c }
+        ensures within { (c : ℕ) → IsTrue (bit self.now row c) → c < self.now.columns }
+    {
+        let start = row as usize * self.stride;
+        &self.words[start..start + words_for(self.columns)]
+    }
+
+    /// Whether each column that is on in a row of another matrix is on in this one's row.
+    pub fn has_all(&self, row: u32, other: &Matrix, other_row: u32) -> bool
+        requires row_in { row < self.now.rows }
+        requires other_row_in { other_row < other.now.rows }
+        requires narrow { other.now.columns ≤ self.now.columns }
+        ensures { IsTrue result ↔ ((c : ℕ) → IsTrue (bit other.now other_row c) → IsTrue (bit self.now row c)) }
+    {
+        let count = words_for(other.columns);
+        !any_without(
+            &other.words,
+            other_row as usize * other.stride,
+            &self.words,
+            row as usize * self.stride,
+            count,
+        )
     }
 
     /// Turns all bits off.

@@ -5,3 +5,5 @@ mod Loops
 mod SlotLemmas
 mod Truths
 mod RowLemmas
+mod Closing
+mod Marking

@@ -2,14 +2,14 @@
 use Rattle.std.proofs.Common.{◌≡◌, ◌≢◌, ℕ, zero, suc, ◌<◌, ◌≤◌, Bool, true, false, ◌&&◌, ◌||◌, nat_eq, nat_lt, nat_le, List, [], ◌∷◌, length, get_or, Option, Some, None, IsSome, IfSome, is_some, unwrap_or, ◌^◌, ◌-◌, ◌↔◌, replicate, All, refl, sym, ap, ◌∙◌, subst, inl, inr, arith}
 use Rattle.std.specs.List.{list_any}
 use Rattle.std.proofs.lemmas.List.{get_or-replicate, get_or_past, length-replicate}
-use Rattle.std.proofs.lemmas.Bool.{cases_lt, cases_eq, eqb-true, eq-eqb, ne_eqb, lt-ltb, le-leb, lt-leb, false_from_ne_true, and_right, and_parts, ltb-true, or_cases}
+use Rattle.std.proofs.lemmas.Bool.{cases_lt, cases_eq, eqb-true, eq-eqb, ne_eqb, lt-ltb, le-leb, lt-leb, false_from_ne_true, and_right, and_parts, ltb-true, or_cases, or_left, or_right, and_from}
 use Rattle.etp_theory.specs.Reach.{Fact, dual_number}
-use Rattle.etp_bits.specs.Bits.{Bits, bit, Shares, SameSizes}
+use Rattle.etp_bits.specs.Bits.{Bits, bit, SameSizes}
 use Rattle.etp_closure.specs.Closures.{Known, IsLaw, IsOwnInverse, StandsFor, SameAnswers, KeepsSlots, IsReserved, slot_of, slot_from, IsKept, is_reached, is_covered, bit_by_slots}
 use Rattle.etp_closure.proofs.Standing.{stands_empty, stands_same}
-use Rattle.etp_closure.specs.Tables.{IsOneToOne, Extends, IsClosure, IsSquare, IsMarks, Links, anew, covered_along, row_of, image_of}
+use Rattle.etp_closure.specs.Tables.{IsOneToOne, Extends, IsClosure, IsSquare, IsMarks, IsTurned, MarksUncovered, Links, anew, covered_along, row_of, image_of}
 use Rattle.etp_closure.proofs.SlotLemmas.{slot_kept, kept_by_slot, same_slots, reserved_duals}
-use Rattle.etp_closure.proofs.Relations.{any_named, named_any}
+use Rattle.etp_closure.proofs.Closing.{closed_blank, closed_grown, itself_keeps, itself_only, turned_itself}
 
 or_false : (x : Bool) → x ≡ (x || false)
 or_false true = refl
@@ -94,26 +94,6 @@ same_if true true h k = refl
 same_if true false h k = sym (h refl)
 same_if false true h k = k refl
 same_if false false h k = refl
-
--- a row of marks for the laws of a list shares a column with each row that reaches one of them
-pub shares_any : (reached marks : Bits) (marked : Bool) (t into : ℕ) (rows : ℕ → ℕ) (fails : List ℕ)
-    → ((c : ℕ) → bit marks into c ≡ list_any (λ law. nat_eq c (rows law)) fails)
-    → (marked ≡ true → Shares reached marks t into) → (Shares reached marks t into → marked ≡ true)
-    → marked ≡ list_any (λ law. bit reached t (rows law)) fails
-shares_any reached marks marked t into rows fails line found every =
-    same_if marked (list_any (λ law. bit reached t (rows law)) fails)
-    (λ on.
-    let shared = found on in
-    let named = any_named rows fails (λ n. nat_eq shared.column n) (sym (line shared.column) ∙ shared.there) in
-    let column = eqb-true shared.column named.0 named.2 in
-    named_any rows fails (bit reached t) named.0 named.1 (ap (bit reached t) (sym column) ∙ shared.here))
-    (λ on.
-    let named = any_named rows fails (bit reached t) on in
-    every (record {
-      column = named.0;
-      here = named.2;
-      there = line named.0 ∙ named_any rows fails (λ n. nat_eq named.0 n) named.0 named.1 (eq-eqb named.0 named.0 refl);
-    }))
 
 -- the truth values after pairs were covered
 pub pairs_covered : (duals slots : List ℕ) (r0 c0 c1 : Bits) (image : ℕ → ℕ) (holds fails : List ℕ)
@@ -216,10 +196,10 @@ pairs_by_duals old mid holds fails duals same x y =
     rw (one, two) refl
 
 -- the slot of a kept law is within both matrices
-pub slot_within : (duals slots laws : List ℕ) (reached covered marks : Bits) → IsClosure duals slots laws reached covered marks
+pub slot_within : (duals slots laws : List ℕ) (reached covered marks reaching : Bits) (has_covered : Bool) → IsClosure duals slots laws reached covered marks reaching has_covered
     → (law slot : ℕ) → slot_of slots law ≡ Some slot
     → (slot < length laws) × (slot < reached.rows) × (slot < reached.columns) × (slot < covered.rows) × (slot < covered.columns) × (slot < marks.columns)
-slot_within duals slots laws reached covered marks is law slot at =
+slot_within duals slots laws reached covered marks reaching has_covered is law slot at =
     let inside = (is.paired.law_slot law slot at).0 in
     (inside, omega (arith, is.reached_size.rows_are), omega (arith, is.reached_size.columns_are), omega (arith, is.covered_size.rows_are), omega (arith, is.covered_size.columns_are), omega (arith, is.marks_size.columns_are))
 
@@ -250,22 +230,31 @@ image_kept duals slots duals_kept true law kept = duals_kept law kept
 image_kept duals slots duals_kept false law kept = kept
 
 -- the covered bits after the rows of a refutation were marked and joined
-pub refuted_bits : (r0 c0 c1 m1 m2 m3 m4 : Bits) (count : ℕ) (rows : ℕ → ℕ) (holds fails : List ℕ)
-    → ((r c : ℕ) → bit m1 r c ≡ false)
-    → ((r c : ℕ) → bit m2 r c ≡ (bit m1 r c || (nat_eq r 0 && list_any (λ law. bit r0 (rows law) c) holds)))
-    → ((r c : ℕ) → bit m3 r c ≡ (bit m2 r c || (nat_eq r 1 && list_any (λ law. nat_eq c (rows law)) fails)))
-    → ((r c : ℕ) → r ≢ 2 → bit m4 r c ≡ bit m3 r c)
-    → ((c : ℕ) → bit m4 2 c ≡ true → Shares r0 m3 c 1) → ((c : ℕ) → c < count → Shares r0 m3 c 1 → bit m4 2 c ≡ true)
-    → ((r c : ℕ) → bit c1 r c ≡ (bit c0 r c || ((nat_lt r count && bit m4 0 r) && bit m4 2 c)))
-    → (s t : ℕ) → s < count → t < count
-    → bit c1 s t ≡ (bit c0 s t || (list_any (λ law. bit r0 (rows law) s) holds && list_any (λ law. bit r0 t (rows law)) fails))
-refuted_bits r0 c0 c1 m1 m2 m3 m4 count rows holds fails blank first second others found every joined s t h k =
-    let top : bit m4 0 s ≡ list_any (λ law. bit r0 (rows law) s) holds =
-    others 0 s (λ e. (omega (arith, e))) ∙ second 0 s ∙ rw (first 0 s, blank 0 s) (sym (or_false (list_any (λ law. bit r0 (rows law) s) holds))) in
-    let middle : (c : ℕ) → bit m3 1 c ≡ list_any (λ law. nat_eq c (rows law)) fails = λ c.
-    second 1 c ∙ rw (first 1 c, blank 1 c) refl in
-    let last = shares_any r0 m3 (bit m4 2 t) t 1 rows fails middle (found t) (every t k) in
-    joined s t ∙ rw (lt-ltb s count h, top, last) refl
+pub refuted_bits : (c0 c1 : ℕ → ℕ → Bool) (marks line named : ℕ → Bool) → MarksUncovered marks line c0 named
+    → ((x y : ℕ) → c1 x y ≡ (c0 x y || (marks x && line y))) → (x y : ℕ) → c1 x y ≡ (c0 x y || (named x && line y))
+refuted_bits c0 c1 marks line named uncovered joined x y =
+    joined x y
+    ∙ same_if (c0 x y || (marks x && line y)) (c0 x y || (named x && line y))
+    (λ h. elim (or_cases (c0 x y) (marks x && line y) h) [
+      | inl old ↦ or_left (c0 x y) _ old
+      | inr new ↦
+          let parts = and_parts (marks x) (line y) new in
+          or_right (c0 x y) _ (and_from (named x) (line y) (uncovered.sound x parts.0) parts.1)
+    ])
+    (λ h. elim (or_cases (c0 x y) (named x && line y) h) [
+      | inl old ↦ or_left (c0 x y) _ old
+      | inr new ↦
+          let parts = and_parts (named x) (line y) new in
+          elim (uncovered.complete x parts.0) [
+            | inl marked ↦ or_right (c0 x y) _ (and_from (marks x) (line y) marked parts.1)
+            | inr covered ↦ or_left (c0 x y) _ (covered y parts.1)
+          ]
+    ])
+
+-- what reaches a law of a list, by turned rows
+pub any_turned : (r t : Bits) (rows : ℕ → ℕ) (xs : List ℕ) (y : ℕ) → IsTurned r t
+    → list_any (λ law. bit t (rows law) y) xs ≡ list_any (λ law. bit r y (rows law)) xs
+any_turned r t rows xs y turned = any_same (λ law. bit t (rows law) y) (λ law. bit r y (rows law)) xs (λ i h. turned.same_pairs y (rows (get_or xs i 0)))
 
 pub slot_own : (slots laws : List ℕ) (x y : ℕ) (o : Option ℕ) → IsOneToOne slots laws → IsSome o → slot_of slots x ≡ o → slot_of slots y ≡ o → x ≡ y
 slot_own slots laws x y None pairs some at_x at_y = (cc (some))
@@ -301,12 +290,13 @@ no_slots slots n is (suc place) =
     ])
 
 -- a closure with no law kept
-pub new_closure : (duals slots laws : List ℕ) (reached covered marks : Bits) → IsOwnInverse duals → length slots ≡ length duals
+pub new_closure : (duals slots laws : List ℕ) (reached covered marks reaching : Bits) (has_covered : Bool) → IsOwnInverse duals → length slots ≡ length duals
     → length duals < 2 ^ 32 → laws ≡ [] → slots ≡ replicate (length duals) 0
     → reached.rows ≡ 0 → reached.columns ≡ 0 → ((r c : ℕ) → bit reached r c ≡ false)
     → covered.rows ≡ 0 → covered.columns ≡ 0 → ((r c : ℕ) → bit covered r c ≡ false)
-    → marks.rows ≡ 3 → marks.columns ≡ 0 → IsClosure duals slots laws reached covered marks
-new_closure duals slots laws reached covered marks inverse size many none zeros r_rows r_columns r_off c_rows c_columns c_off m_rows m_columns =
+    → marks.rows ≡ 4 → marks.columns ≡ 0
+    → reaching.rows ≡ 0 → reaching.columns ≡ 0 → ((r c : ℕ) → bit reaching r c ≡ false) → IsClosure duals slots laws reached covered marks reaching has_covered
+new_closure duals slots laws reached covered marks reaching has_covered inverse size many none zeros r_rows r_columns r_off c_rows c_columns c_off m_rows m_columns t_rows t_columns t_off =
     let empty : length laws ≡ 0 = ap length none in
     let free = no_slots slots (length duals) zeros in
     record {
@@ -322,6 +312,10 @@ new_closure duals slots laws reached covered marks inverse size many none zeros 
       reached_size = blank_square reached (length laws) (r_rows ∙ sym empty) (r_columns ∙ sym empty) r_off;
       covered_size = blank_square covered (length laws) (c_rows ∙ sym empty) (c_columns ∙ sym empty) c_off;
       marks_size = record { rows_are = m_rows; columns_are = m_columns ∙ sym empty };
+      reaching_size = blank_square reaching (length laws) (t_rows ∙ sym empty) (t_columns ∙ sym empty) t_off;
+      turned = record { same_pairs = λ r c. t_off c r ∙ sym (r_off r c) };
+      closed = closed_blank (bit reached) (bit covered) r_off c_off;
+      none_covered = λ no. c_off;
     }
 
 pub new_stands : (duals slots : List ℕ) (reached covered : Bits) → slots ≡ replicate (length duals) 0
@@ -480,8 +474,8 @@ extends_same old laws back back_laws same size = record {
 }
 
 -- what a closure is after more laws were kept, or after all was given back
-pub record Reserved (duals slots : List ℕ) (r0 c0 : Bits) (new new_laws : List ℕ) (r1 c1 marks : Bits) : Type 0 where
-  pub is : IsClosure duals new new_laws r1 c1 marks
+pub record Reserved (duals slots : List ℕ) (r0 c0 : Bits) (new new_laws : List ℕ) (r1 c1 marks t1 : Bits) (has_covered : Bool) : Type 0 where
+  pub is : IsClosure duals new new_laws r1 c1 marks t1 has_covered
   pub keeps : KeepsSlots slots new
   pub answers : SameAnswers (record { duals = duals; slots = slots; reached = r0; covered = c0 }) (record { duals = duals; slots = new; reached = r1; covered = c1 })
   pub stands : (facts : List Fact) → StandsFor (record { duals = duals; slots = slots; reached = r0; covered = c0 }) facts
@@ -494,16 +488,18 @@ keeps_all old new duals keeps same facts stands =
     (λ law kept. let at = slot_kept old.slots law kept in kept_by_slot new.slots law at.0 (keeps law at.0 at.1))
     same.same_reached same.same_covered stands
 
-pub reserve_ok : (duals slots laws : List ℕ) (r0 c0 marks0 : Bits) (first second new new_laws : List ℕ) (r1 c1 marks r2 : Bits) (before count : ℕ)
-    → IsClosure duals slots laws r0 c0 marks0 → All (IsLaw (length duals)) first → All (IsLaw (length duals)) second
+pub reserve_ok : (duals slots laws : List ℕ) (r0 c0 marks0 t0 : Bits) (h : Bool) (first second new new_laws : List ℕ) (r1 c1 marks r2 t1 t2 : Bits) (before count : ℕ)
+    → IsClosure duals slots laws r0 c0 marks0 t0 h → All (IsLaw (length duals)) first → All (IsLaw (length duals)) second
     → before ≡ length laws → count ≡ length new_laws → length new_laws < 2 ^ 32
     → IsOneToOne new new_laws → Extends slots laws new new_laws
     → ((law : ℕ) → IsKept new law ↔ IsReserved duals slots first second law)
     → IsSquare r1 count → IsSquare c1 count → IsMarks marks count
     → ((r c : ℕ) → bit r1 r c ≡ bit r0 r c) → ((r c : ℕ) → bit c1 r c ≡ bit c0 r c) → SameSizes r1 r2
     → ((r c : ℕ) → bit r2 r c ≡ (bit r1 r c || (nat_eq r c && (nat_le before r && nat_lt r count))))
-    → Reserved duals slots r0 c0 new new_laws r2 c1 marks
-reserve_ok duals slots laws r0 c0 marks0 first second new new_laws r1 c1 marks r2 before count is first_in second_in at_before at_count few pairs more kept r_size c_size m_size r_same c_same sizes bits =
+    → IsSquare t1 count → ((r c : ℕ) → bit t1 r c ≡ bit t0 r c) → SameSizes t1 t2
+    → ((r c : ℕ) → bit t2 r c ≡ (bit t1 r c || (nat_eq r c && (nat_le before r && nat_lt r count))))
+    → Reserved duals slots r0 c0 new new_laws r2 c1 marks t2 h
+reserve_ok duals slots laws r0 c0 marks0 t0 h first second new new_laws r1 c1 marks r2 t1 t2 before count is first_in second_in at_before at_count few pairs more kept r_size c_size m_size r_same c_same sizes bits t_size t_same t_sizes t_bits =
     let square = grown_square r0 r1 r2 before count r_size r_same sizes bits in
     let whole : (r c : ℕ) → bit r2 r c ≡ (bit r0 r c || (nat_eq r c && (nat_le (length laws) r && nat_lt r (length new_laws)))) = λ r c.
     bits r c ∙ rw (r_same r c, at_before, at_count) refl in
@@ -519,19 +515,27 @@ reserve_ok duals slots laws r0 c0 marks0 first second new new_laws r1 c1 marks r
         reached_size = subst (IsSquare r2) at_count square;
         covered_size = subst (IsSquare c1) at_count c_size;
         marks_size = subst (IsMarks marks) at_count m_size;
+        reaching_size = subst (IsSquare t2) at_count (grown_square t0 t1 t2 before count t_size t_same t_sizes t_bits);
+        turned = turned_itself r1 t1 r2 t2 before count (λ r c. t_same c r ∙ is.turned.same_pairs r c ∙ sym (r_same r c)) bits t_bits;
+        closed = closed_grown (bit r0) (bit c0) (bit r2) (bit c1) is.closed
+            (λ x y on. itself_keeps r1 r2 before count x y bits (r_same x y ∙ on))
+            (λ x y on. elim (itself_only r1 r2 before count x y bits on) [ inl old ↦ inl (sym (r_same x y) ∙ old) | inr equal ↦ inr equal ])
+            c_same;
+        none_covered = λ no r c. c_same r c ∙ is.none_covered no r c;
       };
       keeps = more.stays;
       answers = same;
       stands = keeps_all (record { duals = duals; slots = slots; reached = r0; covered = c0 }) (record { duals = duals; slots = new; reached = r2; covered = c1 }) refl more.stays same;
     }
 
-pub reserve_err : (duals slots laws : List ℕ) (r0 c0 marks0 : Bits) (back back_laws : List ℕ) (r1 c1 marks : Bits) (before : ℕ)
-    → IsClosure duals slots laws r0 c0 marks0 → before ≡ length laws
+pub reserve_err : (duals slots laws : List ℕ) (r0 c0 marks0 t0 : Bits) (h : Bool) (back back_laws : List ℕ) (r1 c1 marks t1 : Bits) (before : ℕ)
+    → IsClosure duals slots laws r0 c0 marks0 t0 h → before ≡ length laws
     → back ≡ slots → IsOneToOne back back_laws → length back_laws ≡ before
     → IsSquare r1 before → IsSquare c1 before → IsMarks marks before
     → ((r c : ℕ) → bit r1 r c ≡ bit r0 r c) → ((r c : ℕ) → bit c1 r c ≡ bit c0 r c)
-    → Reserved duals slots r0 c0 back back_laws r1 c1 marks
-reserve_err duals slots laws r0 c0 marks0 back back_laws r1 c1 marks before is at_before same pairs size r_size c_size m_size r_same c_same =
+    → IsSquare t1 before → ((r c : ℕ) → bit t1 r c ≡ bit t0 r c)
+    → Reserved duals slots r0 c0 back back_laws r1 c1 marks t1 h
+reserve_err duals slots laws r0 c0 marks0 t0 h back back_laws r1 c1 marks t1 before is at_before same pairs size r_size c_size m_size r_same c_same t_size t_same =
     let keeps : KeepsSlots slots back = λ law slot at. ap (λ (ss : List ℕ). slot_of ss law) same ∙ at in
     let answers = subst (λ (ss : List ℕ). SameAnswers (record { duals = duals; slots = slots; reached = r0; covered = c0 }) (record { duals = duals; slots = ss; reached = r1; covered = c1 })) (sym same)
     (same_bits_answers duals slots r0 c0 r1 c1 r_same c_same) in
@@ -546,6 +550,10 @@ reserve_err duals slots laws r0 c0 marks0 back back_laws r1 c1 marks before is a
         reached_size = subst (IsSquare r1) (sym size) r_size;
         covered_size = subst (IsSquare c1) (sym size) c_size;
         marks_size = subst (IsMarks marks) (sym size) m_size;
+        reaching_size = subst (IsSquare t1) (sym size) t_size;
+        turned = record { same_pairs = λ r c. t_same c r ∙ is.turned.same_pairs r c ∙ sym (r_same r c) };
+        closed = closed_grown (bit r0) (bit c0) (bit r1) (bit c1) is.closed (λ x y on. r_same x y ∙ on) (λ x y on. inl (sym (r_same x y) ∙ on)) c_same;
+        none_covered = λ no r c. c_same r c ∙ is.none_covered no r c;
       };
       keeps = keeps;
       answers = answers;

@@ -9,7 +9,7 @@ ghost use Rattle.etp_closure.specs.Tables.{Links, image_of};
 use crate::facts::{Answer, RowCounts};
 use crate::slots::{forget, keep_or_leave, kept_slot, slot_at};
 use crate::tables::{
-    grow_all, join_marked, link, look_up, mark_laws, mark_reached, mark_sharing, reach_themselves,
+    grow_all, link_covered, link_reached, look_up, mark_joined, mark_uncovered, reach_themselves,
 };
 use etp_bits::Matrix;
 use std::alloc::{AllocError, Global};
@@ -24,6 +24,10 @@ pub struct Closure {
     reached: Matrix,
     covered: Matrix,
     marks: Matrix,
+    // What is reached, with the law that is reached as the row.
+    reaching: Matrix,
+    // Whether some pair may be covered.
+    has_covered: bool,
 }
 
 impl Model for Closure {
@@ -34,7 +38,7 @@ impl Model for Closure {
 
     ghost view = { λ c. record { duals = c.duals.items; slots = c.slots.items; reached = c.reached; covered = c.covered } };
 
-    ghost invariant = { λ c. IsClosure c.duals.items c.slots.items c.laws.items c.reached c.covered c.marks };
+    ghost invariant = { λ c. IsClosure c.duals.items c.slots.items c.laws.items c.reached c.covered c.marks c.reaching c.has_covered };
 }
 
 impl Closure {
@@ -52,7 +56,9 @@ impl Closure {
             laws: Vec::new(alloc),
             reached: Matrix::start(alloc, 0, 0)?,
             covered: Matrix::start(alloc, 0, 0)?,
-            marks: Matrix::start(alloc, 3, 0)?,
+            marks: Matrix::start(alloc, 4, 0)?,
+            reaching: Matrix::start(alloc, 0, 0)?,
+            has_covered: false,
         })
     }
 
@@ -156,6 +162,7 @@ impl Closure {
         let count = self.laws.len() as u32;
         if grow_all(
             &mut self.reached,
+            &mut self.reaching,
             &mut self.covered,
             &mut self.marks,
             before as u32,
@@ -167,6 +174,7 @@ impl Closure {
             return Err(AllocError);
         }
         reach_themselves(&mut self.reached, before as u32, count);
+        reach_themselves(&mut self.reaching, before as u32, count);
         Ok(())
     }
 
@@ -202,9 +210,13 @@ impl Closure {
         ensures slots { self.new.slots ≡ self.old.slots }
         ensures stands { StandsFor self.new [] }
     {
+        let count = self.laws.len() as u32;
         self.reached.clear();
+        self.reaching.clear();
         self.covered.clear();
-        reach_themselves(&mut self.reached, 0, self.laws.len() as u32);
+        self.has_covered = false;
+        reach_themselves(&mut self.reached, 0, count);
+        reach_themselves(&mut self.reaching, 0, count);
     }
 
     // The dual of a law that is kept, which is kept too.
@@ -227,12 +239,17 @@ impl Closure {
         let row = kept_slot(&self.slots, from);
         let column = kept_slot(&self.slots, to);
         if !self.reached.get(row, column) {
-            let count = self.laws.len() as u32;
-            link(
+            link_reached(
                 &mut self.reached,
+                &mut self.reaching,
+                &mut self.marks,
+                row,
+                column,
+            );
+            link_covered(
                 &mut self.covered,
                 &mut self.marks,
-                count,
+                self.has_covered,
                 row,
                 column,
             );
@@ -249,18 +266,25 @@ impl Closure {
         ensures reached { self.new.reached ≡ self.old.reached }
         ensures covered { (x y : ℕ) → is_covered self.new x y ≡ (is_covered self.old x y || (list_any (λ law. is_reached self.old (image_of self.old.duals dual law) x) holds.now && list_any (λ law. is_reached self.old y (image_of self.old.duals dual law)) fails.now)) }
     {
-        let count = self.laws.len() as u32;
         self.marks.clear();
-        mark_reached(
+        mark_joined(
+            &mut self.marks,
+            &self.reaching,
+            &self.slots,
+            &self.duals,
+            dual,
+            fails,
+        );
+        mark_uncovered(
             &mut self.marks,
             &self.reached,
+            &self.covered,
             &self.slots,
             &self.duals,
             dual,
             holds,
         );
-        mark_laws(&mut self.marks, &self.slots, &self.duals, dual, fails);
-        mark_sharing(&mut self.marks, 2, &self.reached, 1, count);
-        join_marked(&mut self.covered, &self.marks, 0, 2, count);
+        self.covered.join_marked(&self.marks, 0, 1);
+        self.has_covered = true;
     }
 }

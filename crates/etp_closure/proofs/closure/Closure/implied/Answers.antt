@@ -6,13 +6,13 @@ use Rattle.etp_closure.proofs.closure.Closure.implied.Goals as goal
 pub look_up-requires-clause-rows : goal.look_up-requires-clause-rows
 look_up-requires-clause-rows c = λ law slot at.
     let m = c.self.inside in
-    let inside = slot_within m.duals.items m.slots.items m.laws.items m.reached m.covered m.marks c.self.invariant law slot (rw c.deref.ensures.value at at) in
+    let inside = slot_within m.duals.items m.slots.items m.laws.items m.reached m.covered m.marks m.reaching m.has_covered c.self.invariant law slot (rw c.deref.ensures.value at at) in
     omega (arith, inside.0, c.self.invariant.reached_size.rows_are)
 
 pub look_up-requires-clause-columns : goal.look_up-requires-clause-columns
 look_up-requires-clause-columns c = λ law slot at.
     let m = c.self.inside in
-    let inside = slot_within m.duals.items m.slots.items m.laws.items m.reached m.covered m.marks c.self.invariant law slot (rw c.deref.ensures.value at at) in
+    let inside = slot_within m.duals.items m.slots.items m.laws.items m.reached m.covered m.marks m.reaching m.has_covered c.self.invariant law slot (rw c.deref.ensures.value at at) in
     omega (arith, inside.0, c.self.invariant.reached_size.columns_are)
 
 pub returns : goal.returns

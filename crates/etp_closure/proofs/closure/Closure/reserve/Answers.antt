@@ -9,7 +9,7 @@ use Rattle.etp_closure.proofs.closure.Closure.reserve.Goals as goal
 
 -- ---- kept
 
-kept : (c : goal.After-reach_themselves) → Reserved c.self.inside.duals.items c.self.inside.slots.items c.self.inside.reached c.self.inside.covered c.keep_or_leave.new.slots c.keep_or_leave.new.laws.items c.reach_themselves.new.reached c.grow_all.new.covered c.grow_all.new.marks
+kept : (c : goal.After-reach_themselves-2) → Reserved c.self.inside.duals.items c.self.inside.slots.items c.self.inside.reached c.self.inside.covered c.keep_or_leave.new.slots c.keep_or_leave.new.laws.items c.reach_themselves.new.reached c.grow_all.new.covered c.grow_all.new.marks c.reach_themselves-2.new.reached c.self.inside.has_covered
 kept c =
     let m = c.self.inside in
     let e = c.in_ok-keep_or_leave.ensures in
@@ -22,18 +22,19 @@ kept c =
     let ok : is_ok c.grow_all.result ≡ true = c.is_err.ensures.negation ∙ ap not c.if-is_err.false in
     let extends = subst (λ (ss : List ℕ). Extends ss m.laws.items c.keep_or_leave.new.slots c.keep_or_leave.new.laws.items) c.deref_mut.ensures.value e.extends in
     let among = rw (c.deref_mut.ensures.value, c.deref.ensures.value) at e.kept in
-    reserve_ok m.duals.items m.slots.items m.laws.items m.reached m.covered m.marks c.args.first.now c.args.second.now c.keep_or_leave.new.slots c.keep_or_leave.new.laws.items
-    c.grow_all.new.reached c.grow_all.new.covered c.grow_all.new.marks c.reach_themselves.new.reached c.len-before.result c.len-count.result
+    reserve_ok m.duals.items m.slots.items m.laws.items m.reached m.covered m.marks m.reaching m.has_covered c.args.first.now c.args.second.now c.keep_or_leave.new.slots c.keep_or_leave.new.laws.items
+    c.grow_all.new.reached c.grow_all.new.covered c.grow_all.new.marks c.reach_themselves.new.reached c.grow_all.new.reaching c.reach_themselves-2.new.reached c.len-before.result c.len-count.result
     c.self.invariant first second before count (omega (arith, e.few, c.keep_or_leave.new.laws.ok.0)) e.paired extends among
     (rw ok at g.reached_size) (rw ok at g.covered_size) (rw ok at g.marks_size) g.reached g.covered c.reach_themselves.ensures.sizes c.reach_themselves.ensures.bits
+    (rw ok at g.reaching_size) g.reaching c.reach_themselves-2.ensures.sizes c.reach_themselves-2.ensures.bits
 
-written : (c : goal.After-reach_themselves) → (with_items c.self.inside.slots c.keep_or_leave.new.slots).items ≡ c.keep_or_leave.new.slots
+written : (c : goal.After-reach_themselves-2) → (with_items c.self.inside.slots c.keep_or_leave.new.slots).items ≡ c.keep_or_leave.new.slots
 written c = with_items_is c.self.inside.slots c.keep_or_leave.new.slots (omega (arith, c.keep_or_leave.auto.slots, c.deref_mut.ensures.len))
 
 pub invariant_of-self-2 : goal.invariant_of-self-2
 invariant_of-self-2 c =
     let m = c.self.inside in
-    subst (λ (ss : List ℕ). IsClosure m.duals.items ss c.keep_or_leave.new.laws.items c.reach_themselves.new.reached c.grow_all.new.covered c.grow_all.new.marks) (sym (written c)) (kept c).is
+    subst (λ (ss : List ℕ). IsClosure m.duals.items ss c.keep_or_leave.new.laws.items c.reach_themselves.new.reached c.grow_all.new.covered c.grow_all.new.marks c.reach_themselves-2.new.reached m.has_covered) (sym (written c)) (kept c).is
 
 pub returns-clause-kept : goal.returns-clause-kept
 returns-clause-kept c =
@@ -74,7 +75,7 @@ given c =
     slots_back m.slots.items m.laws.items c.keep_or_leave.new.slots c.keep_or_leave.new.laws.items c.forget.new.slots c.len-before.result
     c.self.invariant.paired extends before size slots
 
-back : (c : goal.After-self-then-is_err-1) → Reserved c.self.inside.duals.items c.self.inside.slots.items c.self.inside.reached c.self.inside.covered c.forget.new.slots c.forget.new.laws.items c.grow_all.new.reached c.grow_all.new.covered c.grow_all.new.marks
+back : (c : goal.After-self-then-is_err-1) → Reserved c.self.inside.duals.items c.self.inside.slots.items c.self.inside.reached c.self.inside.covered c.forget.new.slots c.forget.new.laws.items c.grow_all.new.reached c.grow_all.new.covered c.grow_all.new.marks c.grow_all.new.reaching c.self.inside.has_covered
 back c =
     let m = c.self.inside in
     let e = c.in_ok-keep_or_leave.ensures in
@@ -85,8 +86,8 @@ back c =
     let same = given c in
     let fits : c.len-before.result ≤ length c.keep_or_leave.new.laws.items = omega (arith, before, extends.more) in
     let size = ap length c.forget.ensures.laws ∙ length-take-le c.len-before.result c.keep_or_leave.new.laws.items fits in
-    reserve_err m.duals.items m.slots.items m.laws.items m.reached m.covered m.marks c.forget.new.slots c.forget.new.laws.items c.grow_all.new.reached c.grow_all.new.covered c.grow_all.new.marks c.len-before.result
-    c.self.invariant before same c.forget.ensures.paired size (rw err at g.reached_size) (rw err at g.covered_size) (rw err at g.marks_size) g.reached g.covered
+    reserve_err m.duals.items m.slots.items m.laws.items m.reached m.covered m.marks m.reaching m.has_covered c.forget.new.slots c.forget.new.laws.items c.grow_all.new.reached c.grow_all.new.covered c.grow_all.new.marks c.grow_all.new.reaching c.len-before.result
+    c.self.invariant before same c.forget.ensures.paired size (rw err at g.reached_size) (rw err at g.covered_size) (rw err at g.marks_size) g.reached g.covered (rw err at g.reaching_size) g.reaching
 
 written_back : (c : goal.After-self-then-is_err-1)
     → (with_items (with_items c.self.inside.slots c.keep_or_leave.new.slots) c.forget.new.slots).items ≡ c.forget.new.slots
@@ -96,7 +97,7 @@ written_back c =
 
 pub invariant_of-self-then-is_err : goal.invariant_of-self-then-is_err
 invariant_of-self-then-is_err c =
-    subst (λ (ss : List ℕ). IsClosure c.self.inside.duals.items ss c.forget.new.laws.items c.grow_all.new.reached c.grow_all.new.covered c.grow_all.new.marks) (sym (written_back c)) (back c).is
+    subst (λ (ss : List ℕ). IsClosure c.self.inside.duals.items ss c.forget.new.laws.items c.grow_all.new.reached c.grow_all.new.covered c.grow_all.new.marks c.grow_all.new.reaching c.self.inside.has_covered) (sym (written_back c)) (back c).is
 
 pub returns-then-is_err-clause-slots : goal.returns-then-is_err-clause-slots
 returns-then-is_err-clause-slots c =

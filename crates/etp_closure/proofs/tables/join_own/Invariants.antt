@@ -1,9 +1,0 @@
-use Rattle.etp_bits.specs.Bits.{bit, SameSizes}
-use Rattle.etp_closure.proofs.Loops.{JoinedBelow}
-use Rattle.etp_closure.proofs.tables.join_own.Given as goal
-
-abbrev pub invariant-loop-row : goal.invariant-loop-row
-invariant-loop-row l = record {
-  sizes : SameSizes l.initial.matrix l.matrix;
-  joined : JoinedBelow (bit l.initial.matrix) (bit l.matrix) (bit l.marks l.marked) (bit l.initial.matrix l.line) l.row;
-}
