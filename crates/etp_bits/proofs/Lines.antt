@@ -203,10 +203,10 @@ pub lacking_more : (words other : List ℕ) (start from count rest : ℕ) → sl
 lacking_more words other start from count rest small other_small before =
     let word = bit_and (slice_index words (start + count)) (bit_not w64 (slice_index other (from + count))) in
     record {
-      none = λ zero place below.
+      none = λ all place below.
           elim (cases_eq place count) [
-            | inl same ↦ rw same (or_parts rest word zero).1
-            | inr differs ↦ before.none (or_parts rest word zero).0 place (omega (arith, below, differs))
+            | inl same ↦ rw same (or_parts rest word all).1
+            | inr differs ↦ before.none (or_parts rest word all).0 place (omega (arith, below, differs))
           ];
       some = λ lit.
           elim (cases_eq word 0) [
@@ -221,7 +221,7 @@ pub lacking_found : (words other : List ℕ) (start from count place rest : ℕ)
     → not (nat_eq rest 0) ≡ true → LitInOne words other start from count
 lacking_found words other start from count place rest all before on =
     elim (cases_eq rest 0) [
-      | inl zero ↦ absurd (cc (on, eq-eqb rest 0 zero))
+      | inl none ↦ absurd (cc (on, eq-eqb rest 0 none))
       | inr differs ↦
           let found = before.some differs in
           record { column = found.column; within = omega (arith, found.within, all); here = found.here; not_there = found.not_there }
@@ -231,6 +231,6 @@ pub lacking_lit : (words other : List ℕ) (start from count place rest : ℕ) �
     → Lacking words other start from place rest → LitInOne words other start from count → not (nat_eq rest 0) ≡ true
 lacking_lit words other start from count place rest all small before found =
     elim (cases_eq rest 0) [
-      | inl zero ↦ absurd (lit_not_one words other start from count small (λ k below. before.none zero k (omega (arith, below, all))) found)
+      | inl none ↦ absurd (lit_not_one words other start from count small (λ k below. before.none none k (omega (arith, below, all))) found)
       | inr differs ↦ ap not (ne_eqb rest 0 differs)
     ]

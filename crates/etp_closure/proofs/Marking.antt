@@ -129,23 +129,24 @@ uncovered_more marks new line c r row xs n s h at joined before = record {
       ];
 }
 
--- the last law that was found to be covered is so
-abbrev pub LastCovered : (ℕ → Bool) → (ℕ → ℕ → Bool) → Option ℕ → Type 0
-LastCovered line c last = (s : ℕ) → last ≡ Some s → (k : ℕ) → line k ≡ true → c s k ≡ true
+-- the law that was found to be covered is so
+abbrev pub FoundCovered : (ℕ → Bool) → (ℕ → ℕ → Bool) → Option ℕ → Type 0
+FoundCovered line c last = (s : ℕ) → last ≡ Some s → (k : ℕ) → line k ≡ true → c s k ≡ true
 
-pub last_none : (line : ℕ → Bool) (c : ℕ → ℕ → Bool) → LastCovered line c None
-last_none line c s at = (cc (at))
+pub found_none : (line : ℕ → Bool) (c : ℕ → ℕ → Bool) → FoundCovered line c None
+found_none line c s at = (cc (at))
 
-pub last_more : (marks new line : ℕ → Bool) (r c : ℕ → ℕ → Bool) (s : ℕ) (last next : Option ℕ) → MarksLaw marks new line r c s last next
-    → LastCovered line c last → LastCovered line c next
-last_more marks new line r c s last next (was_marked on same stays) known = λ t at. known t (sym stays ∙ at)
-last_more marks new line r c s last next (was_reached on same stays) known = λ t at. known t (sym stays ∙ at)
-last_more marks new line r c s last next (is_found all same is) known =
+pub found_more : (marks new line : ℕ → Bool) (r c : ℕ → ℕ → Bool) (s : ℕ) (last next : Option ℕ) → MarksLaw marks new line r c s last next
+    → FoundCovered line c last → FoundCovered line c next
+found_more marks new line r c s last next (was_marked on same stays) known = λ t at. known t (sym stays ∙ at)
+found_more marks new line r c s last next (was_reached on same stays) known = λ t at. known t (sym stays ∙ at)
+found_more marks new line r c s last next (is_found all same (inr stays)) known = λ t at. known t (sym stays ∙ at)
+found_more marks new line r c s last next (is_found all same (inl is)) known =
     λ t at k on. (let equal : s ≡ t = some_same s t (sym is ∙ at) in ap (λ n. c n k) (sym equal) ∙ all k on)
   where
     some_same : (a b : ℕ) → Some a ≡ Some b → a ≡ b
     some_same a b e = ap (λ (o : Option ℕ). unwrap_or o 0) e
-last_more marks new line r c s last next (is_added joined stays) known = λ t at. known t (sym stays ∙ at)
+found_more marks new line r c s last next (is_added joined stays) known = λ t at. known t (sym stays ∙ at)
 
 same_marks : (marks new line : ℕ → Bool) (c : ℕ → ℕ → Bool) (named : ℕ → Bool) → ((k : ℕ) → new k ≡ marks k)
     → MarksUncovered marks line c named → MarksUncovered new line c named
@@ -154,19 +155,19 @@ same_marks marks new line c named same before = record {
   complete = λ k on. elim (before.complete k on) [ inl there ↦ inl (same k ∙ there) | inr covered ↦ inr covered ];
 }
 
-from_last : (line : ℕ → Bool) (r c : ℕ → ℕ → Bool) (s : ℕ) (last : Option ℕ) → IsClosed r c → reached_from r last s ≡ true
-    → LastCovered line c last → (k : ℕ) → line k ≡ true → c s k ≡ true
-from_last line r c s None closed on known = (cc (on))
-from_last line r c s (Some t) closed on known = λ k marked. closed.moves_on t k s (known t refl k marked) on
+from_found : (line : ℕ → Bool) (r c : ℕ → ℕ → Bool) (s : ℕ) (last : Option ℕ) → IsClosed r c → reached_from r last s ≡ true
+    → FoundCovered line c last → (k : ℕ) → line k ≡ true → c s k ≡ true
+from_found line r c s None closed on known = (cc (on))
+from_found line r c s (Some t) closed on known = λ k marked. closed.moves_on t k s (known t refl k marked) on
 
 -- one law more
 pub uncovered_law : (marks new line : ℕ → Bool) (c r : ℕ → ℕ → Bool) (row : ℕ → ℕ) (xs : List ℕ) (n s : ℕ) (last next : Option ℕ)
-    → n < length xs → row (get_or xs n 0) ≡ s → IsClosed r c → LastCovered line c last → MarksLaw marks new line r c s last next
+    → n < length xs → row (get_or xs n 0) ≡ s → IsClosed r c → FoundCovered line c last → MarksLaw marks new line r c s last next
     → Uncovered marks line c r row (take n xs) → Uncovered new line c r row (take (n + 1) xs)
 uncovered_law marks new line c r row xs n s last next h at closed known (was_marked on same stays) before =
     same_marks marks new line c _ same (uncovered_marked marks line c r row xs n s h at closed on before)
 uncovered_law marks new line c r row xs n s last next h at closed known (was_reached on same stays) before =
-    same_marks marks new line c _ same (uncovered_covered marks line c r row xs n s h at closed (from_last line r c s last closed on known) before)
+    same_marks marks new line c _ same (uncovered_covered marks line c r row xs n s h at closed (from_found line r c s last closed on known) before)
 uncovered_law marks new line c r row xs n s last next h at closed known (is_found all same is) before =
     same_marks marks new line c _ same (uncovered_covered marks line c r row xs n s h at closed all before)
 uncovered_law marks new line c r row xs n s last next h at closed known (is_added joined stays) before =

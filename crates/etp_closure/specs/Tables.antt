@@ -62,15 +62,15 @@ abbrev pub reached_from : (ℕ → ℕ → Bool) → Option ℕ → ℕ → Bool
 reached_from reached None second = false
 reached_from reached (Some first) second = reached first second
 
--- a law is marked already, or reached from the last law that is known to be covered against all of a row,
+-- a law is marked already, or reached from the law that is known to be covered against all of a row,
 -- or is found to be covered so itself, or what it reaches is marked
-pub data MarksLaw (old new row : ℕ → Bool) (reached covered : ℕ → ℕ → Bool) (slot : ℕ) (last next : Option ℕ) : Type 0 where
-  was_marked : old slot ≡ true → ((law : ℕ) → new law ≡ old law) → next ≡ last → MarksLaw old new row reached covered slot last next
-  was_reached : reached_from reached last slot ≡ true → ((law : ℕ) → new law ≡ old law) → next ≡ last
-      → MarksLaw old new row reached covered slot last next
-  is_found : ((law : ℕ) → row law ≡ true → covered slot law ≡ true) → ((law : ℕ) → new law ≡ old law) → next ≡ Some slot
-      → MarksLaw old new row reached covered slot last next
-  is_added : ((law : ℕ) → new law ≡ (old law || reached slot law)) → next ≡ last → MarksLaw old new row reached covered slot last next
+pub data MarksLaw (old new row : ℕ → Bool) (reached covered : ℕ → ℕ → Bool) (slot : ℕ) (found next : Option ℕ) : Type 0 where
+  was_marked : old slot ≡ true → ((law : ℕ) → new law ≡ old law) → next ≡ found → MarksLaw old new row reached covered slot found next
+  was_reached : reached_from reached found slot ≡ true → ((law : ℕ) → new law ≡ old law) → next ≡ found
+      → MarksLaw old new row reached covered slot found next
+  is_found : ((law : ℕ) → row law ≡ true → covered slot law ≡ true) → ((law : ℕ) → new law ≡ old law) → (next ≡ Some slot) ⊎ (next ≡ found)
+      → MarksLaw old new row reached covered slot found next
+  is_added : ((law : ℕ) → new law ≡ (old law || reached slot law)) → next ≡ found → MarksLaw old new row reached covered slot found next
 
 -- more laws have slots, and the slots that were there stay
 pub record Extends (old_slots old_laws new_slots new_laws : List ℕ) : Type 0 where

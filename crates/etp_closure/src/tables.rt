@@ -235,22 +235,22 @@ pub(crate) fn mark_uncovered(
     ensures line { (c : ℕ) → bit marks.new 1 c ≡ bit marks.old 1 c }
     ensures uncovered { MarksUncovered (bit marks.new 0) (bit marks.old 1) (bit covered.now) (λ c. list_any (λ law. bit reached.now (row_of slots.now (image_of duals.now dual law)) c) list.now) }
 {
-    let mut last = None;
+    let mut found = None;
     for law in list {
         let slot = kept_slot(slots, image(duals, dual, *law));
-        last = mark_law(marks, reached, covered, slot, last);
+        found = mark_law(marks, reached, covered, slot, found);
     }
 }
 
 // Marks in the first row what a law reaches, unless it is marked itself or covered against all of the
-// second row's marks, as the last law that was found to be covered and all that it reaches are. Gives
-// the last such law.
+// second row's marks, as the first law that was found to be covered and all that it reaches are. Gives
+// that law.
 fn mark_law(
     marks: &mut Matrix,
     reached: &Matrix,
     covered: &Matrix,
     slot: u32,
-    last: Option<u32>,
+    found: Option<u32>,
 ) -> Option<u32>
     requires marks_rows { 1 < marks.old.rows }
     requires narrow { reached.now.columns ≤ marks.old.columns }
@@ -258,20 +258,23 @@ fn mark_law(
     requires row_in { slot < reached.now.rows }
     requires column_in { slot < reached.now.columns }
     requires in_covered { slot < covered.now.rows }
-    requires last_in { IfSome last (λ row. row < reached.now.rows) }
+    requires found_in { IfSome found (λ row. row < reached.now.rows) }
     ensures sizes { SameSizes marks.old marks.new }
     ensures line { (c : ℕ) → bit marks.new 1 c ≡ bit marks.old 1 c }
-    ensures last_in { IfSome result (λ row. row < reached.now.rows) }
-    ensures marked { MarksLaw (bit marks.old 0) (bit marks.new 0) (bit marks.old 1) (bit reached.now) (bit covered.now) slot last result }
+    ensures found_in { IfSome result (λ row. row < reached.now.rows) }
+    ensures marked { MarksLaw (bit marks.old 0) (bit marks.new 0) (bit marks.old 1) (bit reached.now) (bit covered.now) slot found result }
 {
-    if marks.get(0, slot) || is_reached_from(reached, last, slot) {
-        return last;
+    if marks.get(0, slot) || is_reached_from(reached, found, slot) {
+        return found;
     }
     if covered.has_all(slot, marks, 1) {
-        return Some(slot);
+        return match found {
+            None => Some(slot),
+            Some(first) => Some(first),
+        };
     }
     marks.join_row(0, reached, slot);
-    last
+    found
 }
 
 // Whether there is a first law, by its slot, and the second is reached from it.

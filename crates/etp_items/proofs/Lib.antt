@@ -9,3 +9,4 @@ pub mod OneRefusal
 pub mod WrittenLemmas
 pub mod ReadBack
 pub mod WrittenReads
+pub mod Writable

@@ -19,7 +19,7 @@ use Rattle.etp_items.specs.Bodies.{ProofBody, FileBody, proof}
 use Rattle.etp_items.specs.Words.{words_of, behind_word}
 use Rattle.etp_items.specs.BodyLines.{Version, plain, citing, version_word, Line, heading, cite, lemma, step, SpellsSide, SaysHeading, SaysCite, SaysLemma, SaysStep, Says}
 use Rattle.etp_items.specs.Reading.{GivenLine, Place, opening, headed, within, after, may_step, Reads, cite_limit, lemma_lines, lines_said, IsBody}
-use Rattle.etp_items.specs.Written.{reference_word, direction_word, position_word, written_line, written_lines, is_cited, has_cited, is_empty, is_citing, version_for, written_body, IsWritable, IsShort, IsWritableBody, given_line, given_lines}
+use Rattle.etp_items.specs.Written.{reference_word, direction_word, position_word, written_line, written_lines, is_cited, has_cited, is_empty, is_citing, version_for, written_body, IsWritable, IsShort, IsWritableBody, IsShortBody, given_line, given_lines}
 use Rattle.etp_items.proofs.ReadBack.{both, either, neither, together, joined, is_text, graph_text, IsWord, words_front, words_last, behind_front, decimal_number, decimal_word, name_word, reference_is_word, direction_is_word, position_is_word, reference_said, direction_said, position_said}
 
 -- a written term is a text of letters, digits, signs and spaces
@@ -267,8 +267,8 @@ read_version p false plain e f some few h =
     (subst (λ (z : List Line). Reads (headed plain 0) (as_given z) z (within plain)) (sym lines)
     (read_all_lemmas plain 0 p.lemmas some (inr n.1) (subst (AllByRecursion IsWritable) lines h.1)))
 
-pub written_body_reads : (b : FileBody) → IsWritableBody b → IsBody (given_lines (written_body b)) b
-written_body_reads (proof p) (some, few, writable, short) =
+pub written_body_reads : (b : FileBody) → IsWritableBody b → IsShortBody b → IsBody (given_lines (written_body b)) b
+written_body_reads (proof p) (some, few, writable) short =
     let v = version_for p in
     let said = lines_said v p in
     let all : AllByRecursion IsWritable said = recursion_from_All IsWritable said writable in

@@ -3,7 +3,7 @@ use Rattle.std.specs.Prelude.{◌≡◌, ℕ, Bool, List}
 use Rattle.etp_items.specs.Bodies.{FileBody}
 use Rattle.etp_items.specs.BodyLines.{Line, Says, IsBlankLine}
 use Rattle.etp_items.specs.Reading.{GivenLine, IsBody, IsReadBody, Refuses}
-use Rattle.etp_items.specs.Written.{written_body, IsWritableBody, given_lines}
+use Rattle.etp_items.specs.Written.{written_body, IsWritableBody, IsShortBody, given_lines}
 use Rattle.etp_items.specs.declared.refusal.BodyRefusal.{BodyRefusal}
 
 pub record BodyLaws : Type 0 where
@@ -18,5 +18,6 @@ pub record BodyLaws : Type 0 where
   -- and lines that are refused have one refusal
   pub one_refusal : (count : ℕ) (lines : List GivenLine) (closed : Bool) (r s : BodyRefusal)
       → Refuses count lines closed r → Refuses count lines closed s → r ≡ s
-  -- the written form of a body, read again, is the body
-  pub written_body_reads : (b : FileBody) → IsWritableBody b → IsBody (given_lines (written_body b)) b
+  -- what is read can be written, and what is written in short lines is read again
+  pub body_writable : (lines : List GivenLine) (b : FileBody) → IsBody lines b → IsWritableBody b
+  pub written_body_reads : (b : FileBody) → IsWritableBody b → IsShortBody b → IsBody (given_lines (written_body b)) b

@@ -78,11 +78,14 @@ IsWritable (step x) = (x.line < 2 ^ 32) × (bound x.to ≤ 64) × (leaves x.to �
 abbrev pub IsShort : Line → Type 0
 IsShort line = length (written_line line) ≤ 4096
 
--- the body is complete, and each of its lines can be written and is short
+-- the body has a lemma and at most 64 cites, and each of its lines can be written
 abbrev pub IsWritableBody : FileBody → Type 0
 IsWritableBody (proof p) =
     (0 < length p.lemmas) × (length p.cites ≤ cite_limit) × All IsWritable (lines_said (version_for p) p)
-    × All IsShort (lines_said (version_for p) p)
+
+-- each of its lines is short
+abbrev pub IsShortBody : FileBody → Type 0
+IsShortBody (proof p) = All IsShort (lines_said (version_for p) p)
 
 -- a line of a text, as a reader is given it
 abbrev pub given_line : LineText → GivenLine

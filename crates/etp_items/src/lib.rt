@@ -13,7 +13,7 @@ mod work;
 mod writing;
 
 pub use body::Body;
-pub use lines::{Version, lemma_line, step_line};
+pub use lines::{Version, is_blank_line, lemma_line, step_line};
 pub use numbers::number_word;
 pub use reader::BodyReader;
 pub use refusal::BodyRefusal;

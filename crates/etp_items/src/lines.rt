@@ -50,7 +50,7 @@ struct Reference {
 }
 
 /// Whether the line says nothing: it has no words, or its first word begins with `#`.
-pub(crate) fn is_blank_line(line: &[u8]) -> bool
+pub fn is_blank_line(line: &[u8]) -> bool
     ensures { result ≡ are_blank (words_of line.now) }
 {
     match next_word(line) {

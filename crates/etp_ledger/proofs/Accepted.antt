@@ -1,5 +1,5 @@
 -- Files that are accepted one after the other: one more, and what they say is right.
-use Rattle.std.proofs.Common.{◌≡◌, ℕ, zero, suc, List, [], ◌∷◌, ◌++◌, Bool, true, false, cond, All, Contains, Option, Some, None, IsSome, is_some, map, slice_get, refl, sym, ap, subst, ◌∙◌, append_assoc}
+use Rattle.std.proofs.Common.{◌≡◌, ℕ, zero, suc, List, [], ◌∷◌, ◌++◌, Bool, true, false, cond, All, Contains, Option, Some, None, IsSome, is_some, slice_get, refl, sym, ap, subst, ◌∙◌, append_assoc}
 use Rattle.etp_theory.specs.Trees.{Equation}
 use Rattle.etp_theory.specs.Reach.{Fact, implies}
 use Rattle.etp_theory.specs.RightFacts.{Implies, IsRightFact}

@@ -1,13 +1,13 @@
 -- What a ledger keeps makes its answers right.
-use Rattle.std.proofs.Common.{◌≡◌, ℕ, zero, suc, ◌-◌, ◌<◌, ◌≤◌, ◌⊎◌, inl, inr, List, [], ◌∷◌, ◌++◌, Bool, true, false, cond, All, Contains, Some, None, IsSome, IsTrue, is_some, length, slice_get, get_or, refl, sym, ap, subst, ◌∙◌, arith, length-append}
+use Rattle.std.proofs.Common.{◌≡◌, ℕ, zero, suc, ◌<◌, ◌≤◌, ◌⊎◌, inl, inr, List, [], ◌∷◌, ◌++◌, true, false, cond, All, Contains, Some, IsTrue, length, get_or, sym, ap, subst, ◌∙◌, arith, length-append}
 use Rattle.std.proofs.lemmas.Option.{slice_get-get_or, slice_get_within}
 use Rattle.etp_theory.specs.Trees.{Equation, law_dual}
 use Rattle.etp_theory.specs.Sameness.{Same}
-use Rattle.etp_theory.specs.Reach.{Fact, Reach, Covers, dual_number}
-use Rattle.etp_theory.specs.RightFacts.{law_numbered, AreDualNumbers, AreRightFacts}
+use Rattle.etp_theory.specs.Reach.{Fact, dual_number}
+use Rattle.etp_theory.specs.RightFacts.{law_numbered, AreRightFacts}
 use Rattle.etp_theory.proofs.Reaching.{reach_derives, covered_apart, never_both}
 use Rattle.etp_laws.specs.Listing.{trivial, IsTheList}
-use Rattle.etp_laws.specs.LawLists.{entry_at, AreDuals, IsDualOf, IsNumberOf}
+use Rattle.etp_laws.specs.LawLists.{AreDuals}
 use Rattle.etp_laws.specs.Enumeration.{laws_upto}
 use Rattle.etp_laws.proofs.TheList.{laws_upto_is}
 use Rattle.etp_laws.proofs.Blocks.{laws_upto_4, laws_upto_5}

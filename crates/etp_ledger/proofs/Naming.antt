@@ -1,5 +1,5 @@
 -- Files by their names, as the map keeps them and as they are spoken of.
-use Rattle.std.proofs.Common.{◌≡◌, ◌≢◌, ℕ, zero, suc, ◌+◌, not, nat_lt, true≢false, slice_get, length, position, List, [], ◌∷◌, ◌++◌, Bool, true, false, cond, Option, Some, None, map, refl, sym, ap, ◌∙◌}
+use Rattle.std.proofs.Common.{◌≡◌, ◌≢◌, ℕ, zero, suc, ◌+◌, not, nat_lt, true≢false, slice_get, length, position, List, [], ◌∷◌, ◌++◌, Bool, true, false, cond, Option, Some, None, refl, sym, ap, ◌∙◌}
 use Rattle.std.specs.Option.{option_map, option_copied}
 use Rattle.std.specs.Borrow.{Bor}
 use Rattle.std.specs.List.{position_or_len}
@@ -11,7 +11,7 @@ use Rattle.etp_items.specs.Bodies.{FileBody, body_of}
 use Rattle.etp_check.specs.Checks.{fact_said}
 use Rattle.etp_ledger.specs.Files.{File, is_named, body_named, facts_of}
 use Rattle.etp_ledger.proofs.Lists.{map_get}
-use Rattle.etp_ledger.specs.Kept.{file_of, files_of}
+use Rattle.etp_ledger.specs.Kept.{files_of}
 use Rattle.etp_ledger.specs.declared.kept.Kept.{Kept}
 
 module _ {A : Type 0} (name : List ℕ) where

@@ -1,10 +1,9 @@
 -- A file that is put in last place, and taken out of it again.
-use Rattle.std.proofs.Common.{◌≡◌, ℕ, zero, suc, ◌-◌, ◌<◌, List, [], ◌∷◌, ◌++◌, Option, Some, None, IsSome, true≢false, length, slice_get, refl, sym, ap, subst, ◌∙◌, arith, length-append}
+use Rattle.std.proofs.Common.{◌≡◌, ℕ, ◌-◌, ◌<◌, List, [], ◌∷◌, ◌++◌, Option, Some, None, IsSome, true≢false, length, slice_get, refl, sym, ap, ◌∙◌, arith, length-append}
 use Rattle.std.specs.Option.{option_to_list}
 use Rattle.std.specs.Map.{values_of}
 use Rattle.std.specs.declared.vec.Vec.{Vec}
 use Rattle.etp_closure.specs.Facts.{fact_of}
-use Rattle.etp_theory.specs.Reach.{Fact}
 use Rattle.etp_check.specs.Checks.{fact_said}
 use Rattle.etp_ledger.specs.Files.{facts_of}
 use Rattle.etp_ledger.specs.Kept.{file_of, files_of}

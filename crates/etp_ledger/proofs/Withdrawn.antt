@@ -1,13 +1,13 @@
 -- Files that stay accepted when one that no file cites is taken out.
-use Rattle.std.proofs.Common.{◌≡◌, ◌≢◌, ℕ, zero, suc, List, [], ◌∷◌, ◌++◌, Bool, true, false, cond, All, Contains, Option, Some, None, IsSome, is_some, map, slice_get, refl, sym, ap, subst, ◌∙◌, true≢false}
+use Rattle.std.proofs.Common.{◌≡◌, ◌≢◌, ℕ, zero, suc, List, [], ◌∷◌, ◌++◌, Bool, true, false, cond, All, Contains, Option, Some, None, IsSome, is_some, slice_get, refl, sym, ap, subst, ◌∙◌, true≢false}
 use Rattle.std.specs.Map.{remove_entry}
 use Rattle.std.specs.Str.{bytes_eq}
 use Rattle.std.specs.declared.vec.Vec.{Vec}
 use Rattle.etp_theory.specs.Trees.{Equation}
 use Rattle.etp_theory.specs.Reach.{Fact}
-use Rattle.etp_items.specs.Bodies.{FileBody, body_of}
-use Rattle.etp_check.specs.Checks.{fact_said, hypothesis_of, cites_of, IsValidBody}
-use Rattle.etp_ledger.specs.Files.{File, facts_of, is_named, body_named, Stands, StandsAsProof, ProvesFrom, goal_in, cited_goals}
+use Rattle.etp_items.specs.Bodies.{FileBody}
+use Rattle.etp_check.specs.Checks.{hypothesis_of, cites_of, IsValidBody}
+use Rattle.etp_ledger.specs.Files.{File, facts_of, is_named, body_named, Stands, StandsAsProof, ProvesFrom, goal_in}
 use Rattle.etp_ledger.specs.Accepting.{IsAccepted, AreAcceptedAfter, AreAccepted}
 use Rattle.etp_ledger.specs.Withdrawing.{Cites, without}
 use Rattle.etp_ledger.specs.Kept.{file_of, files_of}

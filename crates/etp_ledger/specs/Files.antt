@@ -3,7 +3,7 @@ use Rattle.std.specs.Prelude.{◌≡◌, ℕ, List, [], ◌∷◌, Option, Some,
 use Rattle.std.specs.Str.{bytes_eq}
 use Rattle.etp_theory.specs.Reach.{Fact, implies, refutes}
 use Rattle.etp_items.specs.Bodies.{FileBody}
-use Rattle.etp_check.specs.Checks.{fact_said, hypothesis_of, cites_of}
+use Rattle.etp_check.specs.Checks.{fact_said, cites_of}
 
 -- a name, and what the lines of its file say
 pub record File : Type 0 where

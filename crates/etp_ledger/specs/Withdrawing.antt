@@ -1,5 +1,5 @@
 -- When a file is withdrawn.
-use Rattle.std.specs.Prelude.{◌≡◌, ◌<◌, ℕ, List, [], ◌∷◌, Some, cond, Contains, All, slice_get, take}
+use Rattle.std.specs.Prelude.{◌≡◌, ℕ, List, [], ◌∷◌, Some, cond, Contains, All, slice_get, take}
 use Rattle.etp_check.specs.Checks.{cites_of}
 use Rattle.etp_ledger.specs.Files.{File, is_named, Stands}
 

@@ -107,10 +107,11 @@ fn accept(
     Some(ledger.accept(laws, name, Body::Proof(proof)))
 }
 
-fn named(rt: &HostRuntime, bytes: &[u8]) -> Name {
-    Name::of(rt.alloc(), bytes)
-        .expect(rt, "memory")
-        .expect(rt, "a name")
+fn named(alloc: Global, bytes: &[u8]) -> Option<Name> {
+    match Name::of(alloc, bytes) {
+        Ok(name) => name,
+        Err(_) => None,
+    }
 }
 
 #[test]
@@ -121,7 +122,12 @@ fn a_proof_and_its_dual_are_answered(rt: HostRuntime) {
     let proof = idempotence(alloc).expect(&rt, "memory");
     assert!(rt;
         matches!(
-            accept(&mut ledger, &laws, named(&rt, b"p1"), proof),
+            accept(
+                &mut ledger,
+                &laws,
+                named(alloc, b"p1").expect(&rt, "a name"),
+                proof
+            ),
             Some(Ok(()))
         )
     );
@@ -143,7 +149,12 @@ fn a_proof_and_its_dual_are_answered(rt: HostRuntime) {
     let again = idempotence(alloc).expect(&rt, "memory");
     assert!(rt;
         matches!(
-            accept(&mut ledger, &laws, named(&rt, b"p1"), again),
+            accept(
+                &mut ledger,
+                &laws,
+                named(alloc, b"p1").expect(&rt, "a name"),
+                again
+            ),
             Some(Err(LedgerRefusal::NameTaken))
         )
     );
@@ -158,14 +169,24 @@ fn files_are_cited_and_withdrawn(rt: HostRuntime) {
     let first = idempotence(alloc).expect(&rt, "memory");
     assert!(rt;
         matches!(
-            accept(&mut ledger, &laws, named(&rt, b"a"), first),
+            accept(
+                &mut ledger,
+                &laws,
+                named(alloc, b"a").expect(&rt, "a name"),
+                first
+            ),
             Some(Ok(()))
         )
     );
-    let second = cube(alloc, named(&rt, b"a")).expect(&rt, "memory");
+    let second = cube(alloc, named(alloc, b"a").expect(&rt, "a name")).expect(&rt, "memory");
     assert!(rt;
         matches!(
-            accept(&mut ledger, &laws, named(&rt, b"b"), second),
+            accept(
+                &mut ledger,
+                &laws,
+                named(alloc, b"b").expect(&rt, "a name"),
+                second
+            ),
             Some(Ok(()))
         )
     );
@@ -187,28 +208,50 @@ fn wrong_cites_are_refused(rt: HostRuntime) {
     let first = idempotence(alloc).expect(&rt, "memory");
     assert!(rt;
         matches!(
-            accept(&mut ledger, &laws, named(&rt, b"a"), first),
+            accept(
+                &mut ledger,
+                &laws,
+                named(alloc, b"a").expect(&rt, "a name"),
+                first
+            ),
             Some(Ok(()))
         )
     );
-    let other = citing(alloc, 5, named(&rt, b"a")).expect(&rt, "memory");
+    let other = citing(alloc, 5, named(alloc, b"a").expect(&rt, "a name")).expect(&rt, "memory");
     assert!(rt;
         matches!(
-            accept(&mut ledger, &laws, named(&rt, b"d"), other),
+            accept(
+                &mut ledger,
+                &laws,
+                named(alloc, b"d").expect(&rt, "a name"),
+                other
+            ),
             Some(Err(LedgerRefusal::CiteOther { cite: 1 }))
         )
     );
-    let missing = citing(alloc, 4, named(&rt, b"zz")).expect(&rt, "memory");
+    let missing = citing(alloc, 4, named(alloc, b"zz").expect(&rt, "a name")).expect(&rt, "memory");
     assert!(rt;
         matches!(
-            accept(&mut ledger, &laws, named(&rt, b"d"), missing),
+            accept(
+                &mut ledger,
+                &laws,
+                named(alloc, b"d").expect(&rt, "a name"),
+                missing
+            ),
             Some(Err(LedgerRefusal::CiteMissing { cite: 1 }))
         )
     );
-    let short = short_of_cites(alloc, named(&rt, b"a")).expect(&rt, "memory");
+    let short = short_of_cites(alloc, named(alloc, b"a").expect(&rt, "a name")).expect(
+        &rt, "memory",
+    );
     assert!(rt;
         matches!(
-            accept(&mut ledger, &laws, named(&rt, b"d"), short),
+            accept(
+                &mut ledger,
+                &laws,
+                named(alloc, b"d").expect(&rt, "a name"),
+                short
+            ),
             Some(Err(LedgerRefusal::Check(CheckRefusal::Replay(ReplayRefusal::Citation {
                 lemma: 1,
                 step: 1,

@@ -2,6 +2,7 @@ use Rattle.etp_items.proofs.OneLine.{one_line, blank_says}
 use Rattle.etp_items.proofs.OneBody.{one_body}
 use Rattle.etp_items.proofs.OneRefusal.{body_stands, one_refusal}
 use Rattle.etp_items.proofs.WrittenReads.{written_body_reads}
+use Rattle.etp_items.proofs.Writable.{body_writable}
 use Rattle.etp_items.proofs.body_laws.Goals as goal
 
 pub returns : goal.returns
@@ -11,5 +12,6 @@ returns c = record {
   one_body = one_body;
   body_stands = body_stands;
   one_refusal = one_refusal;
+  body_writable = body_writable;
   written_body_reads = written_body_reads;
 }

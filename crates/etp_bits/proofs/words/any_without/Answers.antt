@@ -1,4 +1,4 @@
-use Rattle.std.proofs.Common.{arith, ◌≡◌, ◌≢◌, ◌+◌, ◌<◌, ◌^◌, slice_index}
+use Rattle.std.proofs.Common.{arith, ◌+◌, ◌<◌, ◌^◌, slice_index}
 use Rattle.etp_bits.proofs.Lines.{lacking_none, lacking_more, lacking_found, lacking_lit}
 use Rattle.etp_bits.proofs.words.any_without.Goals as goal
 

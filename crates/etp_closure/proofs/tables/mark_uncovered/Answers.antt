@@ -1,7 +1,7 @@
 use Rattle.std.proofs.Common.{◌≡◌, ◌∙◌, ap, sym, ℕ, get_or, unwrap_or, Option}
 use Rattle.etp_bits.specs.Bits.{bit}
 use Rattle.etp_closure.specs.Tables.{image_of, row_of}
-use Rattle.etp_closure.proofs.Marking.{uncovered_law, last_more, law_by_line}
+use Rattle.etp_closure.proofs.Marking.{uncovered_law, found_more, law_by_line}
 use Rattle.etp_closure.proofs.tables.mark_uncovered.Goals as goal
 
 pub loop-law-preserved : goal.loop-law-preserved
@@ -15,11 +15,11 @@ loop-law-preserved c =
     let row : ℕ → ℕ = λ law. row_of c.args.slots.now (image_of c.args.duals.now c.args.dual law) in
     let at : row (get_or list i 0) ≡ slot = ap (row_of c.args.slots.now) (sym c.image.ensures) ∙ ap (λ (o : Option ℕ). unwrap_or o 0) c.kept_slot-slot.ensures in
     let inv = c.loop-law.invariant in
-    let marked = law_by_line (bit c.loop-law.marks 0) (bit c.mark_law-last.new.marks 0) (bit c.loop-law.marks 1) line reached covered slot c.loop-law.last c.mark_law-last.result inv.line c.mark_law-last.ensures.marked in
+    let marked = law_by_line (bit c.loop-law.marks 0) (bit c.mark_law-found.new.marks 0) (bit c.loop-law.marks 1) line reached covered slot c.loop-law.found c.mark_law-found.result inv.line c.mark_law-found.ensures.marked in
     record {
-      sizes = record { rows_stay = c.mark_law-last.ensures.sizes.rows_stay ∙ inv.sizes.rows_stay; columns_stay = c.mark_law-last.ensures.sizes.columns_stay ∙ inv.sizes.columns_stay };
-      line = λ k. c.mark_law-last.ensures.line k ∙ inv.line k;
-      last_in = c.mark_law-last.ensures.last_in;
-      known = last_more (bit c.loop-law.marks 0) (bit c.mark_law-last.new.marks 0) line reached covered slot c.loop-law.last c.mark_law-last.result marked inv.known;
-      uncovered = uncovered_law (bit c.loop-law.marks 0) (bit c.mark_law-last.new.marks 0) line covered reached row list i slot c.loop-law.last c.mark_law-last.result c.loop-law-test.true at c.requires.closed inv.known marked inv.uncovered;
+      sizes = record { rows_stay = c.mark_law-found.ensures.sizes.rows_stay ∙ inv.sizes.rows_stay; columns_stay = c.mark_law-found.ensures.sizes.columns_stay ∙ inv.sizes.columns_stay };
+      line = λ k. c.mark_law-found.ensures.line k ∙ inv.line k;
+      found_in = c.mark_law-found.ensures.found_in;
+      known = found_more (bit c.loop-law.marks 0) (bit c.mark_law-found.new.marks 0) line reached covered slot c.loop-law.found c.mark_law-found.result marked inv.known;
+      uncovered = uncovered_law (bit c.loop-law.marks 0) (bit c.mark_law-found.new.marks 0) line covered reached row list i slot c.loop-law.found c.mark_law-found.result c.loop-law-test.true at c.requires.closed inv.known marked inv.uncovered;
     }

@@ -1,4 +1,4 @@
-use Rattle.std.proofs.Common.{◌≡◌, ◌≢◌, List, ℕ, Some, All, Contains, true≢false, sym, ap, ◌∙◌, refl, arith, subst}
+use Rattle.std.proofs.Common.{◌≢◌, List, ℕ, Some, All, Contains, true≢false, sym, ap, ◌∙◌, refl, arith, subst}
 use Rattle.etp_ledger.proofs.Lists.{get_contains, contains_get, all_at, all_next, take_whole}
 use Rattle.etp_ledger.proofs.Naming.{same_bytes, other_bytes}
 use Rattle.etp_ledger.proofs.citing.contains.Goals as goal

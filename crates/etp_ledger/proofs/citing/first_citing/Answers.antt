@@ -1,4 +1,4 @@
-use Rattle.std.proofs.Common.{◌≡◌, ◌≢◌, List, ℕ, Some, All, Contains, take, true≢false, sym, ap, ◌∙◌, refl, arith, subst}
+use Rattle.std.proofs.Common.{All, true≢false, sym, ◌∙◌, arith, subst}
 use Rattle.etp_items.specs.Bodies.{body_of}
 use Rattle.etp_ledger.specs.Files.{File}
 use Rattle.etp_ledger.specs.Withdrawing.{Cites}

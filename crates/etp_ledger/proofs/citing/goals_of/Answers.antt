@@ -1,4 +1,3 @@
-use Rattle.std.proofs.Common.{ℕ, List}
 use Rattle.etp_ledger.specs.Files.{body_named, goal_in, StandsAsProof}
 use Rattle.etp_ledger.specs.Kept.{files_of}
 use Rattle.etp_ledger.proofs.Lists.{all_next, map_next}

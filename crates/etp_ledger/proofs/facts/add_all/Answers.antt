@@ -1,11 +1,9 @@
-use Rattle.std.proofs.Common.{◌≡◌, ◌++◌, ◌∷◌, [], List, ℕ, Some, take, sym, ap, ◌∙◌, subst, slice_get}
-use Rattle.etp_theory.specs.Reach.{Fact}
+use Rattle.std.proofs.Common.{◌≡◌, List, ℕ, Some, take, sym, ap, ◌∙◌, subst, slice_get}
 use Rattle.etp_closure.specs.Closures.{StandsFor, HasKeptLaws}
 use Rattle.etp_closure.specs.Facts.{fact_of}
-use Rattle.etp_ledger.specs.Files.{File, facts_of}
-use Rattle.etp_ledger.specs.Kept.{file_of, files_of}
-use Rattle.etp_check.specs.Checks.{fact_said}
-use Rattle.etp_ledger.proofs.Lists.{get_contains, take_next, take_whole, map_long}
+use Rattle.etp_ledger.specs.Files.{facts_of}
+use Rattle.etp_ledger.specs.Kept.{files_of}
+use Rattle.etp_ledger.proofs.Lists.{get_contains, take_next}
 use Rattle.etp_ledger.proofs.Naming.{fact_at}
 use Rattle.etp_ledger.proofs.facts.add_all.Goals as goal
 

@@ -1,6 +1,5 @@
-use Rattle.std.proofs.Common.{◌≡◌, ◌++◌, ◌∷◌, [], List, ℕ, length, ap, sym, ◌∙◌, subst}
-use Rattle.etp_theory.specs.Reach.{Fact}
-use Rattle.etp_closure.specs.Closures.{StandsFor, HasKeptLaws}
+use Rattle.std.proofs.Common.{◌++◌, ◌∷◌, [], length, ap, sym, ◌∙◌, subst}
+use Rattle.etp_closure.specs.Closures.{StandsFor}
 use Rattle.etp_closure.specs.Facts.{fact_of}
 use Rattle.indexmap.proofs.CallerLemmas.{insert_entry-new}
 use Rattle.etp_ledger.specs.Files.{facts_of}

@@ -1,5 +1,4 @@
-use Rattle.std.proofs.Common.{◌≡◌, ◌<◌, ◌++◌, ◌∷◌, ◌⊎◌, [], ℕ, List, length, ap, sym, ◌∙◌, subst, rules, arith}
-use Rattle.etp_theory.specs.Reach.{Fact}
+use Rattle.std.proofs.Common.{◌≡◌, ◌<◌, ◌++◌, ◌∷◌, ◌⊎◌, [], ℕ, List, length, ap, sym, ◌∙◌, subst, rules}
 use Rattle.etp_items.specs.Bodies.{body_of}
 use Rattle.etp_check.specs.Checks.{HasLaws}
 use Rattle.etp_ledger.specs.Accepting.{IsAccepted}

@@ -1,4 +1,4 @@
-use Rattle.std.proofs.Common.{◌≡◌, ap, sym, ◌∙◌, subst, length, false, true, rules}
+use Rattle.std.proofs.Common.{sym, subst, rules}
 use Rattle.etp_laws.specs.Listing.{IsTheList}
 use Rattle.etp_closure.specs.Closures.{IsLaw}
 use Rattle.etp_ledger.specs.Files.{facts_of}

@@ -1,5 +1,3 @@
-use Rattle.etp_ledger.specs.Ledgers.{Entries}
-use Rattle.etp_ledger.specs.Kept.{files_of}
 use Rattle.etp_ledger.proofs.Meaning.{seen, not_both}
 use Rattle.etp_ledger.proofs.ledger.Ledger.closure.Goals as goal
 

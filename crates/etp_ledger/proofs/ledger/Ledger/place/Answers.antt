@@ -1,4 +1,4 @@
-use Rattle.std.proofs.Common.{◌≡◌, ap, sym, ◌∙◌, subst, position, Some, None}
+use Rattle.std.proofs.Common.{ap, sym, ◌∙◌, position}
 use Rattle.etp_ledger.specs.Files.{is_named}
 use Rattle.etp_ledger.specs.Ledgers.{Entries}
 use Rattle.etp_ledger.proofs.Naming.{place_same}

@@ -1,6 +1,6 @@
-use Rattle.std.proofs.Common.{◌≡◌, All, ℕ, List, ap, sym, ◌∙◌, subst, rules}
-use Rattle.etp_ledger.specs.Files.{File, Stands}
-use Rattle.etp_ledger.specs.Withdrawing.{Cites, without, IsWithdrawn}
+use Rattle.std.proofs.Common.{ap, ◌∙◌, subst, rules}
+use Rattle.etp_ledger.specs.Files.{Stands}
+use Rattle.etp_ledger.specs.Withdrawing.{IsWithdrawn}
 use Rattle.etp_ledger.specs.Ledgers.{Entries}
 use Rattle.etp_ledger.specs.Kept.{files_of}
 use Rattle.etp_ledger.proofs.Withdrawn.{removed}

@@ -1,0 +1,161 @@
+-- What is read can be written.
+use Rattle.std.proofs.Common.{◌≡◌, ℕ, ◌+◌, ◌<◌, ◌≤◌, ◌^◌, arith, Bool, true, false, cond, ◌&&◌, nat_le, nat_lt, nat_eq, List, [], ◌∷◌, ◌++◌, length, map, refl, sym, ap, subst, ◌∙◌, inl, inr, Option, Some, None}
+use Rattle.std.specs.List.{list_all, AllByRecursion}
+use Rattle.std.specs.Option.{option_map}
+use Rattle.std.proofs.lemmas.Bool.{leb-true, ltb-true}
+use Rattle.std.proofs.lemmas.List.Elements.{All-from_recursion}
+use Rattle.etp_theory.specs.Trees.{Tree, bound}
+use Rattle.etp_theory.specs.Proofs.{Lemma}
+use Rattle.etp_text.specs.Grammar.{Begins, IsAtom, IsSide, variable, enclosed, alone, joined, SpellsTerm}
+use Rattle.etp_items.specs.Numbers.{is_digit, value_after, is_number, number_of}
+use Rattle.etp_items.specs.Bodies.{FileBody, proof}
+use Rattle.etp_items.specs.BodyLines.{Version, plain, citing, Line, heading, cite, lemma, step, Says, reference_of}
+use Rattle.etp_items.specs.Reading.{GivenLine, Place, opening, headed, within, after, Reads, cite_limit, lemma_lines, lines_said, IsBody}
+use Rattle.etp_items.specs.Written.{IsWritable, IsWritableBody, version_for}
+use Rattle.etp_items.proofs.ReadBack.{both}
+
+begins_split : (bytes : List ℕ) (ts us : List _) (rest : List ℕ) → Begins bytes (ts ++ us) rest → (middle : List ℕ) × Begins bytes ts middle × Begins middle us rest
+begins_split bytes [] us rest h = (bytes, refl, h)
+begins_split bytes (t ∷ ts) us rest (blanks, start, next, a, e, s, more) =
+    let on = begins_split next ts us rest more in
+    (on.0, (blanks, start, next, a, e, s, on.1), on.2)
+
+-- the variables of a text have a name
+mutual
+  atom_named : (ts : List _) (t : Tree) → IsAtom ts t → (bytes rest : List ℕ) → Begins bytes ts rest → bound t ≤ 64
+  atom_named _ _ (variable v) bytes rest (blanks, start, next, a, e, s, more) = omega (arith, s.is_token.0)
+  atom_named _ _ (enclosed ts t side) bytes rest (blanks, start, next, a, e, s, more) =
+      let cut = begins_split next ts _ rest more in side_named ts t side next cut.0 cut.1
+
+  side_named : (ts : List _) (t : Tree) → IsSide ts t → (bytes rest : List ℕ) → Begins bytes ts rest → bound t ≤ 64
+  side_named _ _ (alone ts t a) bytes rest h = atom_named ts t a bytes rest h
+  side_named _ _ (joined ls l rs r a b) bytes rest h =
+      let cut = begins_split bytes ls _ rest h in
+      let left : bound l ≤ 64 = atom_named ls l a bytes cut.0 cut.1 in
+      let right : bound r ≤ 64 = atom_named rs r b cut.2.2 rest cut.2.6 in
+      omega arith
+
+pub term_named : (bytes : List ℕ) (t : Tree) → SpellsTerm bytes t → bound t ≤ 64
+term_named bytes t (ts, (rest, b, a), s) = side_named ts t s bytes rest b
+
+number_small : (is : Bool) (w : List ℕ) (n : ℕ) → is ≡ is_number w → cond is (Some (value_after 0 w)) None ≡ Some n → n < 2 ^ 32
+number_small false w n e f = absurd (cc)
+number_small true w n e f =
+    let all = list_all is_digit w && nat_le 1 (length w) && nat_le (length w) 10 in
+    let k : value_after 0 w ≤ 4294967295 = leb-true (value_after 0 w) 4294967295 (both all (nat_le (value_after 0 w) 4294967295) (sym e)).1 in
+    let same : value_after 0 w ≡ n = cc in
+    omega arith
+
+pub number_fits : (w : List ℕ) (n : ℕ) → number_of w ≡ Some n → n < 2 ^ 32
+number_fits w n e = number_small (is_number w) w n refl e
+
+abbrev pub numbered : Bool → ℕ → ℕ × Bool
+numbered c n = (n, c)
+
+mapped : (o : Option ℕ) (c d : Bool) (m : ℕ) → option_map (numbered c) o ≡ Some (m, d) → o ≡ Some m
+mapped None c d m e = absurd (cc)
+mapped (Some n) c d m e = ap Some (ap (λ (q : ℕ × Bool). q.0) (some_same (n, c) (m, d) e))
+  where
+    some_same : (p q : ℕ × Bool) → Some p ≡ Some q → p ≡ q
+    some_same p q e = cc
+
+reference_then : (is : Bool) (b : ℕ) (bytes : List ℕ) (m : ℕ) (d : Bool)
+    → cond is (option_map (numbered true) (number_of bytes)) (option_map (numbered false) (number_of (b ∷ bytes))) ≡ Some (m, d) → m < 2 ^ 32
+reference_then true b bytes m d e = number_fits bytes m (mapped (number_of bytes) true d m e)
+reference_then false b bytes m d e = number_fits (b ∷ bytes) m (mapped (number_of (b ∷ bytes)) false d m e)
+
+reference_fits : (w : List ℕ) (m : ℕ) (d : Bool) → reference_of w ≡ Some (m, d) → m < 2 ^ 32
+reference_fits [] m d e = absurd (cc)
+reference_fits (b ∷ bytes) m d e = reference_then (nat_eq b 99) b bytes m d e
+
+-- what a line says can be written
+says_writable : (line : List ℕ) (l : Line) → Says line l → IsWritable l
+says_writable line (heading v e f) s = (number_fits s.first e s.from, number_fits s.second f s.to)
+says_writable line (cite name) s = s.named
+says_writable line (lemma t) s = (term_named _ t s.term.spelled, s.term.small)
+says_writable line (step x) s = (reference_fits s.reference x.line x.cited s.by, term_named _ x.to s.term.spelled, s.term.small)
+
+reads_writable : (p q : Place) (xs : List GivenLine) (saids : List Line) → Reads p xs saids q → AllByRecursion IsWritable saids
+reads_writable p q [] saids h = subst (AllByRecursion IsWritable) (sym h.0) tt
+reads_writable p q (None ∷ xs) saids h = absurd h
+reads_writable p q (Some line ∷ xs) saids (inl h) = reads_writable p q xs saids h.1
+reads_writable p q (Some line ∷ xs) saids (inr (said, next, more, says, a, h, e)) =
+    subst (AllByRecursion IsWritable) (sym e) (says_writable line said says, reads_writable next q xs more h)
+
+-- behind the heading
+pub record Behind (v : Version) (saids : List Line) (q : Place) : Type 0 where
+  pub lines : List GivenLine
+  pub reads : Reads (headed v 0) lines saids q
+
+none_some : {A : Type 0} (a : A) → None ≡ Some a → ⊥
+none_some a e = cc
+
+behind_heading : (xs : List GivenLine) (v : Version) (e f : ℕ) (saids : List Line) (q : Place) → Reads opening xs (heading v e f ∷ saids) q → Behind v saids q
+behind_heading [] v e f saids q h = absurd (let k = h.0 in cc)
+behind_heading (None ∷ xs) v e f saids q h = absurd h
+behind_heading (Some line ∷ xs) v e f saids q (inl h) = behind_heading xs v e f saids q h.1
+behind_heading (Some line ∷ xs) v e f saids q (inr (said, next, more, says, a, h, eq)) =
+    let first : heading v e f ≡ said = cc in
+    let rest : saids ≡ more = cc in
+    let there : Some (headed v 0) ≡ Some next = ap (after opening) first ∙ a in
+    let place : headed v 0 ≡ next = cc in
+    record {
+      lines = xs;
+      reads = subst (λ (z : Place). Reads z xs saids q) (sym place) (subst (λ (z : List Line). Reads next xs z q) (sym rest) h);
+    }
+
+-- a cite that stands
+pub record CiteStands (v : Version) (n : ℕ) (next : Place) : Type 0 where
+  pub few : n < cite_limit
+  pub there : next ≡ headed v (n + 1)
+
+cite_then : (few : Bool) (n : ℕ) (next : Place) → few ≡ nat_lt n cite_limit → cond few (Some (headed citing (n + 1))) None ≡ Some next → CiteStands citing n next
+cite_then true n next e f = let k : headed citing (n + 1) ≡ next = cc in record { few = ltb-true n cite_limit (sym e); there = sym k }
+cite_then false n next e f = absurd (none_some next f)
+
+cite_stands : (v : Version) (n : ℕ) (name : List ℕ) (next : Place) → after (headed v n) (cite name) ≡ Some next → CiteStands v n next
+cite_stands plain n name next e = absurd (none_some next e)
+cite_stands citing n name next e = cite_then (nat_lt n cite_limit) n next refl e
+
+few_cites : (xs : List GivenLine) (v : Version) (n : ℕ) (names : List (List ℕ)) (rest : List Line) (q : Place) → n ≤ cite_limit → Reads (headed v n) xs (map cite names ++ rest) q → n + length names ≤ cite_limit
+few_cites xs v n [] rest q few h = omega arith
+few_cites [] v n (name ∷ names) rest q few h = absurd (let k = h.0 in cc)
+few_cites (None ∷ xs) v n (name ∷ names) rest q few h = absurd h
+few_cites (Some line ∷ xs) v n (name ∷ names) rest q few (inl h) = few_cites xs v n (name ∷ names) rest q few h.1
+few_cites (Some line ∷ xs) v n (name ∷ names) rest q few (inr (said, next, more, says, a, h, eq)) =
+    let first : cite name ≡ said = cc in
+    let behind : map cite names ++ rest ≡ more = cc in
+    let one = cite_stands v n name next (ap (after (headed v n)) first ∙ a) in
+    let on = few_cites xs v (n + 1) names rest q (omega (arith, one.few))
+    (subst (λ (z : Place). Reads z xs (map cite names ++ rest) q) one.there (subst (λ (z : List Line). Reads next xs z q) (sym behind) h)) in
+    omega (arith, on)
+
+apart : (v w : Version) (n : ℕ) → within w ≡ headed v n → ⊥
+apart v w n e = cc
+
+-- cites alone are no body
+no_lemma : (xs : List GivenLine) (v w : Version) (n : ℕ) (names : List (List ℕ)) → Reads (headed v n) xs (map cite names ++ []) (within w) → ⊥
+no_lemma [] v w n names h = apart v w n h.1
+no_lemma (None ∷ xs) v w n names h = h
+no_lemma (Some line ∷ xs) v w n names (inl h) = no_lemma xs v w n names h.1
+no_lemma (Some line ∷ xs) v w n [] (inr (said, next, more, says, a, h, eq)) = absurd (cc)
+no_lemma (Some line ∷ xs) v w n (name ∷ names) (inr (said, next, more, says, a, h, eq)) =
+    let first : cite name ≡ said = cc in
+    let behind : map cite names ++ [] ≡ more = cc in
+    let one = cite_stands v n name next (ap (after (headed v n)) first ∙ a) in
+    no_lemma xs v w (n + 1) names
+    (subst (λ (z : Place). Reads z xs (map cite names ++ []) (within w)) one.there (subst (λ (z : List Line). Reads next xs z (within w)) (sym behind) h))
+
+some_lemma : (v : Version) (xs : List GivenLine) (names : List (List ℕ)) (ls : List Lemma) → Reads (headed v 0) xs (map cite names ++ lemma_lines ls) (within v) → 0 < length ls
+some_lemma v xs names [] h = absurd (no_lemma xs v v 0 names h)
+some_lemma v xs names (l ∷ ls) h = omega arith
+
+pub body_writable : (lines : List GivenLine) (b : FileBody) → IsBody lines b → IsWritableBody b
+body_writable lines (proof p) (v, h) =
+    let all = reads_writable opening (within v) lines (lines_said v p) h in
+    let behind = behind_heading lines v p.hypothesis p.goal (map cite p.cites ++ lemma_lines p.lemmas) (within v) h in
+    let few : 0 + length p.cites ≤ cite_limit = few_cites behind.lines v 0 p.cites (lemma_lines p.lemmas) (within v) (omega arith) behind.reads in (
+      some_lemma v behind.lines p.cites p.lemmas behind.reads,
+      omega arith,
+      All-from_recursion IsWritable (lines_said (version_for p) p) all,
+    )
