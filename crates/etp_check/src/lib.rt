@@ -1,11 +1,18 @@
 //! The check of a file's body, which gives the fact that it states.
 #![tactic(auto)]
 
+ghost use Rattle.etp_check.specs.Theorems.{CheckLaws};
+
 mod checking;
 mod refusal;
 
 pub use checking::check;
 pub use refusal::CheckRefusal;
+
+/// A body is valid, or it has one first offence.
+pub fn check_laws()
+    ensures { CheckLaws }
+{}
 
 #[cfg(test)]
 mod tests;

@@ -1,13 +1,16 @@
 ghost use Rattle.std.specs.Prelude.{◌≡◌, ◌≢◌, ◌⊎◌};
 
 use etp_replay::ReplayRefusal;
+use thiserror::Error;
 
 /// Why a body is refused.
-#[derive(Drop)]
+#[derive(Debug, Drop, Error)]
 pub enum CheckRefusal {
     /// The first offence of a proof; it is never want of memory.
+    #[error("the proof isn't valid")]
     Replay(ReplayRefusal),
     /// Want of memory.
+    #[error("out of memory")]
     NoMemory,
 }
 

@@ -14,9 +14,11 @@ pub record ProofBody : Type 0 where
   pub cites : List (List ℕ)
   pub lemmas : List Lemma
 
+-- what the lines of a file are
 pub data FileBody : Type 0 where
   proof : ProofBody → FileBody
 
+-- the proof that a value of the program stands for
 abbrev pub proof_of : Proof → ProofBody
 proof_of p = record {
   hypothesis = p.hypothesis;
@@ -25,5 +27,6 @@ proof_of p = record {
   lemmas = map lemma_of p.lemmas;
 }
 
+-- and the body
 abbrev pub body_of : Body → FileBody
 body_of (Program.Proof p) = proof (proof_of p)

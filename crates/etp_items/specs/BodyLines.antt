@@ -15,10 +15,12 @@ pub data Version : Type 0 where
   plain : Version
   citing : Version
 
+-- the word that begins a proof
 abbrev pub version_word : Version → List ℕ
 version_word plain = codes "proof"
 version_word citing = codes "proof2"
 
+-- what a line says, where it says anything
 pub data Line : Type 0 where
   -- a proof begins, of the second law from the first
   heading : Version → ℕ → ℕ → Line
@@ -41,10 +43,12 @@ reversed_of word = if is_word word (codes ">") then Some false else (if is_word 
 abbrev pub side_of : ℕ → Option Side
 side_of b = if nat_eq b 108 then Some to_left else (if nat_eq b 114 then Some to_right else None)
 
+-- one side and then others, where both are sides
 abbrev pub side_then : Option Side → Option (List Side) → Option (List Side)
 side_then (Some side) (Some sides) = Some (side ∷ sides)
 side_then _ _ = None
 
+-- the sides of the letters, where each is one
 abbrev pub sides_of : List ℕ → Option (List Side)
 sides_of [] = Some []
 sides_of (b ∷ bytes) = side_then (side_of b) (sides_of bytes)
@@ -58,6 +62,7 @@ pub record SpellsSide (text : List ℕ) (term : Tree) : Type 0 where
   pub spelled : SpellsTerm text term
   pub small : leaves term ≤ side_limit
 
+-- the word of the version and two numbers
 pub record SaysHeading (line : List ℕ) (version : Version) (hypothesis goal : ℕ) : Type 0 where
   pub first : List ℕ
   pub second : List ℕ
@@ -65,15 +70,18 @@ pub record SaysHeading (line : List ℕ) (version : Version) (hypothesis goal : 
   pub from : number_of first ≡ Some hypothesis
   pub to : number_of second ≡ Some goal
 
+-- `cite` and a name
 pub record SaysCite (line name : List ℕ) : Type 0 where
   pub words : words_of line ≡ codes "cite" ∷ name ∷ []
   pub named : IsName name
 
+-- `lemma`, and behind it a term
 pub record SaysLemma (line : List ℕ) (start : Tree) : Type 0 where
   pub more : List (List ℕ)
   pub words : words_of line ≡ codes "lemma" ∷ more
   pub term : SpellsSide (behind_word line) start
 
+-- `step`, a reference, a direction, a position, and behind them a term
 pub record SaysStep (line : List ℕ) (x : ProofStep) : Type 0 where
   pub reference : List ℕ
   pub direction : List ℕ
@@ -85,6 +93,7 @@ pub record SaysStep (line : List ℕ) (x : ProofStep) : Type 0 where
   pub at : position_named position ≡ Some x.position
   pub term : SpellsSide (behind_word (behind_word (behind_word (behind_word line)))) x.to
 
+-- the line says this
 abbrev pub Says : List ℕ → Line → Type 0
 Says line (heading version hypothesis goal) = SaysHeading line version hypothesis goal
 Says line (cite name) = SaysCite line name
@@ -96,5 +105,6 @@ abbrev pub are_blank : List (List ℕ) → Bool
 are_blank [] = true
 are_blank (word ∷ words) = is_comment word
 
+-- a blank line or a comment
 abbrev pub IsBlankLine : List ℕ → Type 0
 IsBlankLine line = are_blank (words_of line) ≡ true

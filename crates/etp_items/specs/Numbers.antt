@@ -3,6 +3,7 @@ use Rattle.std.specs.Prelude.{ℕ, ◌+◌, ◌-◌, ◌*◌, List, [], ◌∷�
 use Rattle.std.specs.declared.option.Option.{Option}
 use Rattle.std.specs.List.{list_all}
 
+-- a byte from `0` to `9`
 abbrev pub is_digit : ℕ → Bool
 is_digit b = nat_le 48 b && nat_le b 57
 
@@ -15,5 +16,6 @@ value_after high (d ∷ digits) = value_after (high * 10 + (d - 48)) digits
 abbrev pub is_number : List ℕ → Bool
 is_number word = list_all is_digit word && nat_le 1 (length word) && nat_le (length word) 10 && nat_le (value_after 0 word) 4294967295
 
+-- the number that the word is
 abbrev pub number_of : List ℕ → Option ℕ
 number_of word = if is_number word then Some (value_after 0 word) else None

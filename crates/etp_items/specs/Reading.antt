@@ -10,10 +10,11 @@ use Rattle.etp_items.specs.declared.refusal.BodyRefusal.TheVariants.{BadLine, Un
 abbrev pub GivenLine : Type 0
 GivenLine = Option (List ℕ)
 
--- the most lines of a body, and the most cites of a proof
+-- the most lines of a body
 abbrev pub line_limit : ℕ
 line_limit = 200000
 
+-- the most cites of a proof
 abbrev pub cite_limit : ℕ
 cite_limit = 64
 
@@ -75,10 +76,11 @@ body_numbers (proof p) = p.hypothesis ∷ p.goal ∷ []
 abbrev pub IsListed : ℕ → ℕ → Type 0
 IsListed count n = (1 ≤ n) × (n ≤ count)
 
+-- all law numbers of the lines
 abbrev pub AreListed : ℕ → List Line → Type 0
 AreListed count = All (λ said. All (IsListed count) (numbers_of said))
 
--- the first law number that isn't listed stands in this line, behind the numbers `known` of the line
+-- the first law number that isn't listed stands in this line, behind the numbers `known` of it
 pub record IsFirstUnlisted (count : ℕ) (lines : List GivenLine) (place number : ℕ) : Type 0 where
   pub before : List GivenLine
   pub line : List ℕ
@@ -97,11 +99,12 @@ pub record IsFirstUnlisted (count : ℕ) (lines : List GivenLine) (place number 
   pub known_listed : All (IsListed count) known
   pub unlisted : IsListed count number → ⊥
 
--- the lines before one are read, and that one is too long or isn't blank and says nothing that may follow
+-- the line is too long, or it isn't blank and says nothing that may stand at this place
 abbrev pub HasNoPlace : Place → GivenLine → Type 0
 HasNoPlace place None = Unit {0}
 HasNoPlace place (Some line) = (IsBlankLine line → ⊥) × ((said : Line) → Says line said → after place said ≡ None)
 
+-- the lines before this one are read, and this one has no place behind them
 pub record IsBadLine (lines : List GivenLine) (number : ℕ) : Type 0 where
   pub before : List GivenLine
   pub line : GivenLine
@@ -144,6 +147,7 @@ pub record IsUnknownLaw (count : ℕ) (lines : List GivenLine) (closed : Bool) (
   pub is_body : IsBody lines body
   pub first : IsFirstUnlisted count lines place number
 
+-- the refusal is the one of these lines
 abbrev pub Refuses : ℕ → List GivenLine → Bool → BodyRefusal → Type 0
 Refuses count lines closed (BadLine line) = IsBadLine lines line
 Refuses count lines closed (UnknownLaw line number) = IsUnknownLaw count lines closed line number

@@ -4,20 +4,23 @@ use Rattle.etp_term.specs.Terms.{tree_of}
 use Rattle.etp_replay.specs.Lemmas.{step_of}
 use Rattle.etp_items.specs.BodyLines.{Version, plain, citing, Line, heading, cite, lemma, step, reference_of, reversed_of}
 use Rattle.etp_items.specs.Words.{words_of, behind_word}
-use Rattle.etp_items.specs.declared.lines.Version as Program
-use Rattle.etp_items.specs.declared.lines.Version.TheVariants.{Plain, Citing}
+use Rattle.etp_items.specs.declared.proof_lines.Version as Program
+use Rattle.etp_items.specs.declared.proof_lines.Version.TheVariants.{Plain, Citing}
 use Rattle.etp_items.specs.declared.lines.Said.{Said}
 use Rattle.etp_items.specs.declared.lines.Said.TheVariants.{Heading, Cite, Lemma, Step}
-use Rattle.etp_items.specs.declared.lines.Reference.{Reference}
-use Rattle.etp_items.specs.declared.lines.StepWords.{StepWords}
+use Rattle.etp_items.specs.declared.proof_lines.Reference.{Reference}
+use Rattle.etp_items.specs.declared.proof_lines.StepWords.{StepWords}
 
+-- the version
 abbrev pub version_of : Program.Version → Version
 version_of Plain = plain
 version_of Citing = citing
 
+-- a number, and whether it is that of a cite
 abbrev pub named_by : Reference → ℕ × Bool
 named_by r = (r.line, r.cited)
 
+-- what a line said
 abbrev pub line_of : Said → Line
 line_of (Heading h) = heading (version_of h.version) h.hypothesis h.goal
 line_of (Cite name) = cite name

@@ -6,6 +6,7 @@ use Rattle.etp_items.specs.Reading.{GivenLine, IsBody, IsReadBody, Refuses}
 use Rattle.etp_items.specs.Written.{written_body, IsWritableBody, IsShortBody, given_lines}
 use Rattle.etp_items.specs.declared.refusal.BodyRefusal.{BodyRefusal}
 
+-- lines, bodies, refusals and the written form
 pub record BodyLaws : Type 0 where
   -- a line says one thing, and a blank line nothing
   pub one_line : (line : List ℕ) (l m : Line) → Says line l → Says line m → l ≡ m

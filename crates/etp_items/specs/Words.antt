@@ -3,6 +3,7 @@ use Rattle.std.specs.Prelude.{ℕ, List, [], ◌∷◌, Bool, false, not, ◌||�
 use Rattle.std.specs.Cmp.Lexicographic.{pointwise}
 use Rattle.etp_io.specs.Texts.{begin_first}
 
+-- a space or a tab
 abbrev pub is_blank : ℕ → Bool
 is_blank b = nat_eq b 32 || nat_eq b 9
 
@@ -34,6 +35,7 @@ behind_word line = skip_word (skip_blanks line)
 abbrev pub behind_first : List ℕ → List ℕ
 behind_first line = skip_blanks (behind_word line)
 
+-- the word is the other one
 abbrev pub is_word : List ℕ → List ℕ → Bool
 is_word word other = pointwise nat_eq word other
 

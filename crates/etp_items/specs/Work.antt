@@ -6,12 +6,13 @@ use Rattle.etp_items.specs.Bodies.{FileBody, proof, proof_of}
 use Rattle.etp_items.specs.BodyLines.{Version, Line}
 use Rattle.etp_items.specs.Said.{version_of}
 use Rattle.etp_items.specs.Reading.{GivenLine, Place, opening, headed, within, after, Reads, line_limit, lines_said, IsListed, AreListed, IsFirstUnlisted, IsBadLine, HasNoPlace}
-use Rattle.etp_items.specs.declared.work.ProofWork.{ProofWork}
+use Rattle.etp_items.specs.declared.proof_work.ProofWork.{ProofWork}
 use Rattle.etp_items.specs.declared.work.Work.{Work}
 use Rattle.etp_items.specs.declared.work.Work.TheVariants.{Opening, Proof}
 use Rattle.etp_items.specs.declared.reader.Unlisted.{Unlisted}
 use Rattle.etp_items.specs.declared.reader.BodyReader.{BodyReader}
 
+-- how far a proof with these cites and lemmas has come
 abbrev pub place_with : Version → List Label → List Lemma → Place
 place_with version cites [] = headed version (length cites)
 place_with version cites (l ∷ ls) = within version

@@ -12,16 +12,20 @@ use Rattle.etp_items.specs.Bodies.{ProofBody, FileBody, proof}
 use Rattle.etp_items.specs.BodyLines.{Version, plain, citing, version_word, Line, heading, cite, lemma, step}
 use Rattle.etp_items.specs.Reading.{GivenLine, cite_limit, lines_said}
 
+-- the number of a line, or `c` and that of a cite
 abbrev pub reference_word : ProofStep → List ℕ
 reference_word x = if x.cited then codes "c" ++ decimal x.line else decimal x.line
 
+-- from right to left, or from left to right
 abbrev pub direction_word : Bool → List ℕ
 direction_word reversed = if reversed then codes "<" else codes ">"
 
+-- left or right
 abbrev pub side_letter : Side → ℕ
 side_letter to_left = 108
 side_letter to_right = 114
 
+-- the root, or the letters from the root down
 abbrev pub position_word : List Side → List ℕ
 position_word [] = codes "."
 position_word (side ∷ sides) = side_letter side ∷ map side_letter sides
@@ -32,6 +36,7 @@ spaced [] = []
 spaced (word ∷ []) = word
 spaced (word ∷ next ∷ words) = word ++ 32 ∷ spaced (next ∷ words)
 
+-- each line by its words
 abbrev pub written_line : Line → List ℕ
 written_line (heading version hypothesis goal) =
     spaced (version_word version ∷ decimal hypothesis ∷ decimal goal ∷ [])
@@ -45,12 +50,15 @@ abbrev pub written_lines : List Line → List ℕ
 written_lines [] = []
 written_lines (line ∷ lines) = written_line line ++ 10 ∷ written_lines lines
 
+-- a step by a cite
 abbrev pub is_cited : ProofStep → Bool
 is_cited x = x.cited
 
+-- a lemma with such a step
 abbrev pub has_cited : Lemma → Bool
 has_cited l = list_any is_cited l.steps
 
+-- no name
 abbrev pub is_empty : List (List ℕ) → Bool
 is_empty [] = true
 is_empty (name ∷ names) = false
@@ -63,6 +71,7 @@ is_citing p = not (is_empty p.cites) || list_any has_cited p.lemmas
 abbrev pub version_for : ProofBody → Version
 version_for p = if is_citing p then citing else plain
 
+-- the text of a body
 abbrev pub written_body : FileBody → List ℕ
 written_body (proof p) = written_lines (lines_said (version_for p) p)
 

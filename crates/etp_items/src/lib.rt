@@ -6,6 +6,8 @@ ghost use Rattle.etp_items.specs.Theorems.{BodyLaws};
 mod body;
 mod lines;
 mod numbers;
+mod proof_lines;
+mod proof_work;
 mod reader;
 mod refusal;
 mod words;
@@ -13,8 +15,8 @@ mod work;
 mod writing;
 
 pub use body::Body;
-pub use lines::{Version, is_blank_line, lemma_line, step_line};
 pub use numbers::number_word;
+pub use proof_lines::{Version, lemma_line, step_line};
 pub use reader::BodyReader;
 pub use refusal::BodyRefusal;
 pub use words::{is, is_comment, next_word, skip_blanks};

@@ -7,7 +7,8 @@ ghost use Rattle.etp_items.specs.Reading.{GivenLine, line_limit, numbers_of, IsL
 ghost use Rattle.etp_items.specs.Work.{HasGoodLines, HasRead, GoesPast, KeepsCounts, IsFirstOf, unlisted_then};
 
 use crate::body::Body;
-use crate::lines::{Heading, Said, is_blank_line, read_line};
+use crate::lines::{Said, is_blank_line, read_line};
+use crate::proof_lines::Heading;
 use crate::refusal::BodyRefusal;
 use crate::work::Work;
 use etp_term::NoMemory;

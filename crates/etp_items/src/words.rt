@@ -1,4 +1,4 @@
-ghost use Rattle.std.specs.Prelude.{◌≡◌, ◌≤◌, ◌<◌, ◌∷◌, [], take, drop, length, IfSome, IsTrue, ◌↔◌, MatchOption, true};
+ghost use Rattle.std.specs.Prelude.{List, ℕ, ◌≡◌, ◌≤◌, ◌<◌, ◌∷◌, [], take, drop, length, IfSome, IsTrue, ◌↔◌, MatchOption, true};
 ghost use Rattle.etp_items.specs.Words.{words_of, is_blank, goes_on, skip_blanks, skip_word, behind_word, is_word, is_comment};
 
 fn is_blank(byte: u8) -> bool
@@ -51,6 +51,18 @@ pub fn next_word(line: &[u8]) -> Option<(&[u8], &[u8])>
     }
     let end = word_end(line);
     Some((&line[..end], &line[end..]))
+}
+
+/// What stands behind the first word, where that is this one.
+pub(crate) fn behind<'a>(line: &'a [u8], name: &str) -> Option<&'a [u8]>
+    ensures words { MatchOption result ((more : List (List ℕ)) → words_of line.now ≡ name.now ∷ more → ⊥) (λ rest. words_of line.now ≡ name.now ∷ words_of rest.now) }
+    ensures rest { IfSome result (λ rest. rest.now ≡ behind_word line.now) }
+    ensures within { IfSome result (λ rest. length rest.now ≤ length line.now) }
+{
+    match next_word(line) {
+        Some((word, rest)) if is(word, name) => Some(rest),
+        _ => None,
+    }
 }
 
 /// Whether the word is this one.

@@ -12,7 +12,7 @@ ghost use Rattle.etp_items.specs.Reading.{lemma_lines};
 ghost use Rattle.etp_items.specs.Written.{reference_word, direction_word, side_letter, position_word, spaced, written_line, written_lines, is_citing, version_for, written_body};
 
 use crate::body::Body;
-use crate::lines::Version;
+use crate::proof_lines::Version;
 use etp_replay::{Label, Lemma, Proof, Step};
 use etp_term::{NoMemory, Side};
 use etp_text::Text;

@@ -5,7 +5,7 @@ use Rattle.etp_laws.specs.LawLists.{LawList}
 use Rattle.etp_items.specs.Bodies.{FileBody}
 use Rattle.etp_closure.specs.Closures.{IsLaw}
 use Rattle.etp_check.specs.Checks.{fact_said, hypothesis_of, cites_of}
-use Rattle.etp_check.specs.Refusals.{IsFirstOffence}
+use Rattle.etp_check.specs.Refusals.{IsBodyOffence}
 use Rattle.etp_check.specs.declared.refusal.CheckRefusal.{CheckRefusal}
 use Rattle.etp_check.specs.declared.refusal.CheckRefusal.TheVariants as Checked
 use Rattle.etp_ledger.specs.Files.{File, body_named, Stands, StandsAsProof, cited_goals}
@@ -50,7 +50,7 @@ AreCitesRefused files hypothesis names r =
 abbrev pub IsOffence : LawList → List File → FileBody → CheckRefusal → Type 0
 IsOffence l files body (Checked.Replay r) =
     All (StandsAsProof files (hypothesis_of body)) (cites_of body)
-    × IsFirstOffence l body (cited_goals files body) r
+    × IsBodyOffence l body (cited_goals files body) r
 IsOffence l files body Checked.NoMemory = ⊥
 
 -- the name stands; else the first wrong cite; else the body's first offence; want of memory may

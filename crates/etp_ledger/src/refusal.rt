@@ -3,25 +3,34 @@ ghost use Rattle.etp_ledger.specs.declared.refusal.LedgerRefusal.TheVariants.{No
 
 use etp_check::CheckRefusal;
 use std::alloc::{AllocError, AllocFailed};
+use thiserror::Error;
 
 /// Why a call of the ledger is refused. Cites count from 1, places of files from 0.
-#[derive(Drop)]
+#[derive(Debug, Drop, Error)]
 pub enum LedgerRefusal {
     /// A file of the name stands.
+    #[error("name taken")]
     NameTaken,
     /// No file of the name stands.
+    #[error("no such name")]
     NoSuchName,
     /// The body isn't valid; the refusal that it holds is never want of memory.
+    #[error("the body isn't valid")]
     Check(CheckRefusal),
     /// No law of the list has the number.
+    #[error("unknown law {number}")]
     UnknownLaw { number: u32 },
     /// The file at this place, the first of such files, cites the name.
+    #[error("cited by file {by}")]
     Cited { by: u32 },
     /// The name of this cite doesn't stand.
+    #[error("cite missing {cite}")]
     CiteMissing { cite: u32 },
     /// The name of this cite stands, and not for a proof from the same hypothesis.
+    #[error("cite other {cite}")]
     CiteOther { cite: u32 },
     /// Want of memory.
+    #[error("out of memory")]
     NoMemory,
 }
 

@@ -58,58 +58,96 @@ fn idempotence(alloc: Global) -> Result<Proof, NoMemory> {
 }
 
 /// The list of one name.
-fn cite(alloc: Global, name: Name) -> Result<Cites, NoMemory> {
+fn cite(alloc: Global, name: &[u8]) -> Option<Cites> {
     let mut cites = Cites::empty(alloc);
-    cites.push(name)?;
-    Ok(cites)
+    cites.push(Name::of(alloc, name).ok()??).ok()?;
+    Some(cites)
 }
 
 /// From x ◇ y = x to x = x ◇ (x ◇ x), by two steps of a cited file.
-fn cube(alloc: Global, cited: Name) -> Result<Proof, NoMemory> {
+fn cube(alloc: Global, cited: &[u8]) -> Option<Proof> {
     let mut right = Position::root(alloc);
-    right.push(Side::R)?;
+    right.push(Side::R).ok()?;
+    let to = product(alloc, Term::Var(0), square(alloc).ok()?).ok()?;
     let mut steps = Steps::empty(alloc);
-    steps.push(step(1, true, Position::root(alloc), square(alloc)?))?;
-    let to = product(alloc, Term::Var(0), square(alloc)?)?;
-    steps.push(step(1, true, right, to))?;
-    proof(alloc, 4, 8, cite(alloc, cited)?, steps)
+    steps
+        .push(step(1, true, Position::root(alloc), square(alloc).ok()?))
+        .ok()?;
+    steps.push(step(1, true, right, to)).ok()?;
+    proof(alloc, 4, 8, cite(alloc, cited)?, steps).ok()
 }
 
-/// A proof to x = x ◇ x that cites a file and doesn't use it.
-fn citing(alloc: Global, hypothesis: u32, cited: Name) -> Result<Proof, NoMemory> {
-    let steps = Steps::empty(alloc);
-    proof(alloc, hypothesis, 3, cite(alloc, cited)?, steps)
+/// A proof to x = x ◇ x that cites a file and uses the cite of a number.
+fn citing(alloc: Global, hypothesis: u32, cited: &[u8], number: u32) -> Option<Proof> {
+    let mut steps = Steps::empty(alloc);
+    steps
+        .push(step(number, true, Position::root(alloc), square(alloc).ok()?))
+        .ok()?;
+    proof(alloc, hypothesis, 3, cite(alloc, cited)?, steps).ok()
 }
 
-/// A proof that uses a second cite and has one alone.
-fn short_of_cites(alloc: Global, cited: Name) -> Result<Proof, NoMemory> {
-    let mut steps = Steps::empty(alloc);
-    steps.push(step(2, true, Position::root(alloc), square(alloc)?))?;
-    proof(alloc, 4, 3, cite(alloc, cited)?, steps)
+/// What a call of the ledger answers.
+#[derive(Clone, Copy, Debug, PartialEq, Eq)]
+enum Outcome {
+    Done,
+    Taken,
+    Missing(u32),
+    Other(u32),
+    Citation(u32),
+    Cited(u32),
+    Unknown,
+    Else,
+}
+
+fn told(answer: Result<(), LedgerRefusal>) -> Outcome {
+    match answer {
+        Ok(()) => Outcome::Done,
+        Err(LedgerRefusal::NameTaken) => Outcome::Taken,
+        Err(LedgerRefusal::CiteMissing { cite }) => Outcome::Missing(cite),
+        Err(LedgerRefusal::CiteOther { cite }) => Outcome::Other(cite),
+        Err(LedgerRefusal::Cited { by }) => Outcome::Cited(by),
+        Err(LedgerRefusal::NoSuchName) => Outcome::Unknown,
+        Err(LedgerRefusal::Check(refusal)) => offence(refusal),
+        Err(_) => Outcome::Else,
+    }
+}
+
+fn offence(refusal: CheckRefusal) -> Outcome {
+    match refusal {
+        CheckRefusal::Replay(ReplayRefusal::Citation { cite, .. }) => Outcome::Citation(cite),
+        _ => Outcome::Else,
+    }
 }
 
 /// What the ledger answers where its conditions hold.
-fn accept(
-    ledger: &mut Ledger,
-    laws: &Laws,
-    name: Name,
-    proof: Proof,
-) -> Option<Result<(), LedgerRefusal>> {
+fn accept(ledger: &mut Ledger, laws: &Laws, name: Name, proof: Proof) -> Outcome {
     if laws.count() != ledger.closure().size() || ledger.count() == u32::MAX {
-        return None;
+        return Outcome::Else;
     }
     if laws.law(proof.hypothesis).is_none() || laws.law(proof.goal).is_none() {
-        return None;
+        return Outcome::Else;
     }
     if proof.lemmas.len() == 0 {
-        return None;
+        return Outcome::Else;
     }
-    Some(ledger.accept(laws, name, Body::Proof(proof)))
+    told(ledger.accept(laws, name, Body::Proof(proof)))
+}
+
+fn take(ledger: &mut Ledger, laws: &Laws, name: Option<Name>, proof: Option<Proof>) -> Outcome {
+    match (name, proof) {
+        (Some(name), Some(proof)) => accept(ledger, laws, name, proof),
+        _ => Outcome::Else,
+    }
 }
 
 fn named(alloc: Global, bytes: &[u8]) -> Option<Name> {
-    match Name::of(alloc, bytes) {
-        Ok(name) => name,
+    Name::of(alloc, bytes).ok()?
+}
+
+/// The answer for two listed laws.
+fn ask(ledger: &Ledger, e: u32, f: u32) -> Option<Answer> {
+    match ledger.ask(e, f) {
+        Ok(answer) => Some(answer),
         Err(_) => None,
     }
 }
@@ -119,85 +157,43 @@ fn a_proof_and_its_dual_are_answered(rt: HostRuntime) {
     let alloc = rt.alloc();
     let laws = Laws::build(alloc).expect(&rt, "memory");
     let mut ledger = Ledger::start(alloc, &laws).expect(&rt, "memory");
-    let proof = idempotence(alloc).expect(&rt, "memory");
-    assert!(rt;
-        matches!(
-            accept(
-                &mut ledger,
-                &laws,
-                named(alloc, b"p1").expect(&rt, "a name"),
-                proof
-            ),
-            Some(Ok(()))
-        )
+    let first = take(
+        &mut ledger,
+        &laws,
+        named(alloc, b"p1"),
+        idempotence(alloc).ok(),
     );
-    assert!(rt; matches!(ledger.ask(4, 3), Ok(Answer::Implied)));
-    assert!(rt; matches!(ledger.ask(5, 3), Ok(Answer::Implied)));
-    assert!(rt; matches!(ledger.ask(3, 4), Ok(Answer::Unsettled)));
-    assert!(rt;
-        matches!(
-            ledger.ask(4695, 0),
-            Err(LedgerRefusal::UnknownLaw { number: 4695 })
-        )
+    assert_eq!(rt; first, Outcome::Done);
+    assert!(rt; matches!(ask(&ledger, 4, 3), Some(Answer::Implied)));
+    assert!(rt; matches!(ask(&ledger, 5, 3), Some(Answer::Implied)));
+    assert!(rt; matches!(ask(&ledger, 3, 4), Some(Answer::Unsettled)));
+    let again = take(
+        &mut ledger,
+        &laws,
+        named(alloc, b"p1"),
+        idempotence(alloc).ok(),
     );
-    assert!(rt;
-        matches!(
-            ledger.ask(1, 0),
-            Err(LedgerRefusal::UnknownLaw { number: 0 })
-        )
-    );
-    let again = idempotence(alloc).expect(&rt, "memory");
-    assert!(rt;
-        matches!(
-            accept(
-                &mut ledger,
-                &laws,
-                named(alloc, b"p1").expect(&rt, "a name"),
-                again
-            ),
-            Some(Err(LedgerRefusal::NameTaken))
-        )
-    );
-    assert!(rt; matches!(ledger.place(b"p1"), Some(0)));
+    assert_eq!(rt; again, Outcome::Taken);
 }
 
 #[test]
-fn files_are_cited_and_withdrawn(rt: HostRuntime) {
+fn a_cited_file_stays(rt: HostRuntime) {
     let alloc = rt.alloc();
     let laws = Laws::build(alloc).expect(&rt, "memory");
     let mut ledger = Ledger::start(alloc, &laws).expect(&rt, "memory");
-    let first = idempotence(alloc).expect(&rt, "memory");
-    assert!(rt;
-        matches!(
-            accept(
-                &mut ledger,
-                &laws,
-                named(alloc, b"a").expect(&rt, "a name"),
-                first
-            ),
-            Some(Ok(()))
-        )
+    let first = take(
+        &mut ledger,
+        &laws,
+        named(alloc, b"a"),
+        idempotence(alloc).ok(),
     );
-    let second = cube(alloc, named(alloc, b"a").expect(&rt, "a name")).expect(&rt, "memory");
-    assert!(rt;
-        matches!(
-            accept(
-                &mut ledger,
-                &laws,
-                named(alloc, b"b").expect(&rt, "a name"),
-                second
-            ),
-            Some(Ok(()))
-        )
-    );
-    assert!(rt; matches!(ledger.ask(4, 8), Ok(Answer::Implied)));
-    assert!(rt; matches!(ledger.withdraw(b"a"), Err(LedgerRefusal::Cited { by: 1 })));
-    assert!(rt; ledger.withdraw(b"b").is_ok());
-    assert!(rt; matches!(ledger.ask(4, 8), Ok(Answer::Unsettled)));
-    assert!(rt; matches!(ledger.ask(4, 3), Ok(Answer::Implied)));
-    assert!(rt; ledger.withdraw(b"a").is_ok());
-    assert!(rt; matches!(ledger.withdraw(b"a"), Err(LedgerRefusal::NoSuchName)));
-    assert!(rt; matches!(ledger.ask(4, 3), Ok(Answer::Unsettled)));
+    let second = take(&mut ledger, &laws, named(alloc, b"b"), cube(alloc, b"a"));
+    assert_eq!(rt; first, Outcome::Done);
+    assert_eq!(rt; second, Outcome::Done);
+    assert_eq!(rt; told(ledger.withdraw(b"a")), Outcome::Cited(1));
+    assert_eq!(rt; told(ledger.withdraw(b"b")), Outcome::Done);
+    assert!(rt; matches!(ask(&ledger, 4, 8), Some(Answer::Unsettled)));
+    assert!(rt; matches!(ask(&ledger, 4, 3), Some(Answer::Implied)));
 }
 
 #[test]
@@ -205,59 +201,31 @@ fn wrong_cites_are_refused(rt: HostRuntime) {
     let alloc = rt.alloc();
     let laws = Laws::build(alloc).expect(&rt, "memory");
     let mut ledger = Ledger::start(alloc, &laws).expect(&rt, "memory");
-    let first = idempotence(alloc).expect(&rt, "memory");
-    assert!(rt;
-        matches!(
-            accept(
-                &mut ledger,
-                &laws,
-                named(alloc, b"a").expect(&rt, "a name"),
-                first
-            ),
-            Some(Ok(()))
-        )
+    take(
+        &mut ledger,
+        &laws,
+        named(alloc, b"a"),
+        idempotence(alloc).ok(),
     );
-    let other = citing(alloc, 5, named(alloc, b"a").expect(&rt, "a name")).expect(&rt, "memory");
-    assert!(rt;
-        matches!(
-            accept(
-                &mut ledger,
-                &laws,
-                named(alloc, b"d").expect(&rt, "a name"),
-                other
-            ),
-            Some(Err(LedgerRefusal::CiteOther { cite: 1 }))
-        )
+    let other = take(
+        &mut ledger,
+        &laws,
+        named(alloc, b"d"),
+        citing(alloc, 5, b"a", 1),
     );
-    let missing = citing(alloc, 4, named(alloc, b"zz").expect(&rt, "a name")).expect(&rt, "memory");
-    assert!(rt;
-        matches!(
-            accept(
-                &mut ledger,
-                &laws,
-                named(alloc, b"d").expect(&rt, "a name"),
-                missing
-            ),
-            Some(Err(LedgerRefusal::CiteMissing { cite: 1 }))
-        )
+    assert_eq!(rt; other, Outcome::Other(1));
+    let missing = take(
+        &mut ledger,
+        &laws,
+        named(alloc, b"d"),
+        citing(alloc, 4, b"zz", 1),
     );
-    let short = short_of_cites(alloc, named(alloc, b"a").expect(&rt, "a name")).expect(
-        &rt, "memory",
+    assert_eq!(rt; missing, Outcome::Missing(1));
+    let short = take(
+        &mut ledger,
+        &laws,
+        named(alloc, b"d"),
+        citing(alloc, 4, b"a", 2),
     );
-    assert!(rt;
-        matches!(
-            accept(
-                &mut ledger,
-                &laws,
-                named(alloc, b"d").expect(&rt, "a name"),
-                short
-            ),
-            Some(Err(LedgerRefusal::Check(CheckRefusal::Replay(ReplayRefusal::Citation {
-                lemma: 1,
-                step: 1,
-                cite: 2
-            }))))
-        )
-    );
-    assert!(rt; ledger.count() == 1);
+    assert_eq!(rt; short, Outcome::Citation(2));
 }
