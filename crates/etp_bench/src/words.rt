@@ -24,11 +24,15 @@ impl Sizes {
 /// The first three words, or 200, 3 and 200 for those that are missing. A word that is no number
 /// below 65536 is an error.
 pub fn read_sizes(rt: &HostRuntime) -> io::Result<Sizes> {
-    let mut words = env::args(rt)?.skip(1);
+    let mut words = env::args(rt)?;
+    words.next();
+    let implications = number(words.next(), 200)?;
+    let refutations = number(words.next(), 3)?;
+    let laws = number(words.next(), 200)?;
     Ok(Sizes {
-        implications: number(words.next(), 200)?,
-        refutations: number(words.next(), 3)?,
-        laws: number(words.next(), 200)?,
+        implications,
+        refutations,
+        laws,
     })
 }
 

@@ -1,5 +1,5 @@
 -- What a valid body says is right where what it cites is.
-use Rattle.std.proofs.Common.{◌≡◌, ℕ, zero, suc, ◌-◌, ◌<◌, List, Contains, Option, Some, None, IsSome, is_some, unwrap_or, true≢false, refl, length, map, slice_get, sym, ap, subst, ◌∙◌, arith}
+use Rattle.std.proofs.Common.{◌≡◌, ℕ, zero, suc, ◌-◌, List, Contains, Option, Some, None, IsSome, is_some, unwrap_or, true≢false, refl, length, map, slice_get, sym, ap, subst, ◌∙◌, arith}
 use Rattle.std.specs.Option.{option_map}
 use Rattle.std.proofs.lemmas.Option.{slice_get-map, slice_get_within, get_or_from_slice_get}
 use Rattle.etp_theory.specs.Trees.{Equation}
@@ -13,7 +13,7 @@ use Rattle.etp_laws.proofs.Entries.{entry_after, entry_zero}
 use Rattle.etp_closure.specs.Closures.{IsLaw}
 use Rattle.etp_replay.specs.Validity.{law_at}
 use Rattle.etp_replay.proofs.Goals.{listed_law}
-use Rattle.etp_items.specs.Bodies.{FileBody, ProofBody, proof}
+use Rattle.etp_items.specs.Bodies.{FileBody, proof}
 use Rattle.etp_check.specs.Checks.{fact_said, hypothesis_of, IsListedBody, IsValidBody, HasLaws}
 
 -- laws by their numbers, in two spellings

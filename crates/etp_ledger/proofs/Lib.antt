@@ -4,3 +4,4 @@ pub mod Accepted
 pub mod Withdrawn
 pub mod Meaning
 pub mod Storing
+pub mod Verdicts

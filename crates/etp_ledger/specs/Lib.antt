@@ -6,3 +6,4 @@ pub mod Refusals
 pub mod Asking
 pub mod Ledgers
 pub mod Kept
+pub mod Theorems

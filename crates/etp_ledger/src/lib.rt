@@ -1,6 +1,8 @@
 //! Named files that are accepted and withdrawn, and the answers that follow from those that stand.
 #![tactic(auto)]
 
+ghost use Rattle.etp_ledger.specs.Theorems.{LedgerLaws};
+
 mod citing;
 mod facts;
 mod kept;
@@ -10,6 +12,12 @@ mod refusal;
 pub use etp_replay::Label as Name;
 pub use ledger::Ledger;
 pub use refusal::LedgerRefusal;
+
+/// A file is accepted, or it is refused in one way, and so is a withdrawal; only want of memory may
+/// come besides.
+pub fn ledger_laws()
+    ensures { LedgerLaws }
+{}
 
 #[cfg(test)]
 mod tests;
