@@ -56,6 +56,7 @@ impl Ledger {
     pub fn start(alloc: Global, laws: &Laws) -> Result<Ledger, AllocError>
         ensures order { IfOk result (λ ledger. ledger.order ≡ laws.now.order) }
         ensures files { IfOk result (λ ledger. ledger.files ≡ []) }
+        ensures duals { IfOk result (λ ledger. ledger.closure.duals ≡ laws.now.duals) }
         ensures size { IfOk result (λ ledger. length ledger.closure.duals ≡ length laws.now.equations) }
     {
         Ok(Ledger {
