@@ -26,23 +26,21 @@ impl Sizes {
 pub fn read_sizes(rt: &HostRuntime) -> io::Result<Sizes> {
     let mut words = env::args(rt)?;
     words.next();
-    let implications = number(words.next(), 200)?;
-    let refutations = number(words.next(), 3)?;
-    let laws = number(words.next(), 200)?;
+    let mut sizes: [u16; 3] = [200, 3, 200];
+    for size in sizes.iter_mut() {
+        if let Some(word) = words.next() {
+            *size = number(word.as_str())?;
+        }
+    }
     Ok(Sizes {
-        implications,
-        refutations,
-        laws,
+        implications: sizes[0],
+        refutations: sizes[1],
+        laws: sizes[2],
     })
 }
 
-// The number that a word spells, or another where there is no word.
-fn number(word: Option<String>, otherwise: u16) -> io::Result<u16> {
-    match word {
-        None => Ok(otherwise),
-        Some(word) => word
-            .as_str()
-            .parse::<u16>()
-            .map_err(|_| io::Error::from(io::ErrorKind::InvalidInput)),
-    }
+// The number that a word spells.
+fn number(word: &str) -> io::Result<u16> {
+    word.parse::<u16>()
+        .map_err(|_| io::Error::from(io::ErrorKind::InvalidInput))
 }
