@@ -1,7 +1,12 @@
-pub mod WordLemmas
+pub mod TextLemmas
 pub mod Parts
-pub mod NumberLemmas
 pub mod SessionLemmas
-pub mod ReplyLemmas
 pub mod ListingLemmas
+pub mod OneAnswer
+pub mod FilingLemmas
+pub mod FileAnswers
+pub mod ReplyLemmas
+pub mod StateAnswers
+pub mod PairAnswers
+pub mod OneText
 pub mod Running

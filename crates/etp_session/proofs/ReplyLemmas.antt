@@ -1,85 +1,101 @@
--- Replies from the parts that give them.
-use Rattle.std.proofs.Common.{◌≡◌, ◌≢◌, ℕ, ◌+◌, ◌≤◌, min, List, ◌++◌, Bool, true, refl, ap, subst, ◌∙◌, arith}
-use Rattle.std.specs.Prelude.{IfOk, Ok, Err, Result, codes, decimal}
-use Rattle.std.specs.declared.alloc.AllocError.{AllocError}
+-- Replies to commands from the parts that give them.
+use Rattle.std.proofs.Common.{◌≡◌, ℕ, ◌+◌, ◌≤◌, min, List, ◌++◌, Bool, true, refl, ap, ◌∙◌, arith, None, Some}
+use Rattle.std.specs.Prelude.{codes, decimal}
 use Rattle.etp_theory.specs.Trees.{Tree, Equation, ops, leaves, law_ops}
 use Rattle.etp_theory.proofs.Orders.{leaves_ops}
-use Rattle.etp_laws.specs.Listing.{IsTheList}
 use Rattle.etp_laws.specs.LawLists.{LawList, entry_at}
 use Rattle.etp_laws.specs.Numbers.{IsNumbered}
-use Rattle.etp_laws.specs.declared.laws.Numbered.TheVariants.{Is, Trivial, TooManyOps}
-use Rattle.etp_text.specs.Grammar.{SpellsLaw}
-use Rattle.etp_text.specs.Refusals.{RefusesLaw, side_limit}
-use Rattle.etp_text.specs.declared.refusal.TextRefusal.{TextRefusal}
-use Rattle.etp_text.specs.declared.refusal.TextRefusal.TheVariants.{NoMemory}
+use Rattle.etp_laws.specs.declared.laws.Numbered.TheVariants.{Is, TooManyOps}
+use Rattle.etp_text.specs.Refusals.{side_limit}
+use Rattle.etp_ledger.specs.Files.{File}
 use Rattle.etp_session.specs.declared.command.Command.{Command}
-use Rattle.etp_session.specs.declared.command.Command.TheVariants.{Blank, Long, Order, Law, Number, Dual, NotBuilt, Bad}
+use Rattle.etp_session.specs.declared.command.Command.TheVariants.{Blank, Long, Order, Law, Number, Dual, Ask, File as FileCommand, Withdraw, Files, Counts, NotBuilt, Bad}
 use Rattle.etp_session.specs.declared.command.ListOrder.{ListOrder}
-use Rattle.etp_session.specs.Requests.{Request, number}
+use Rattle.etp_session.specs.declared.desk.Opened.{Opened}
+use Rattle.etp_session.specs.Requests.{Request, blank, long, order, law, number, dual, ask, file, withdraw, files, counts, not_built, bad}
 use Rattle.etp_session.specs.Commands.{request_from}
-use Rattle.etp_session.specs.Replies.{refused, reply_text, law_reply, is_refusal, text_refusal, too_many, trivial, numbered, unread, read, Answers, unopened, over}
-use Rattle.etp_session.specs.Given.{GivesReply, GivesAnswer, GivesNumbered}
+use Rattle.etp_session.specs.Texts.{Reply, refused, reply_text, is_refusal}
+use Rattle.etp_session.specs.States as States
+use Rattle.etp_session.specs.States.{State, Opens, over}
+use Rattle.etp_session.specs.Replies.{law_reply, NumberedReply, too_many, numbered, Answers, OpenReply, FirstReply}
+use Rattle.etp_session.specs.Given.{Gives, GivesThen, GivesOpen, GivesOpened, GivesFirst}
+use Rattle.etp_session.specs.Desks.{opened_of, Agrees, IsStage}
+use Rattle.etp_session.specs.Filings.{Leaves}
+use Rattle.etp_session.proofs.FileAnswers.{kept}
 
--- a request's answer that refuses it
-pub refusal-gives : (k : ℕ) (laws : List Equation) (request : Request) (line : ℕ) (why text : List ℕ) (r : Result Bool AllocError)
-    → Answers k laws request (refused why)
-    → IfOk r (λ refusal. (text ≡ reply_text line (refused why)) × (refusal ≡ true))
-    → IfOk r (λ refusal. GivesAnswer k laws request line text refusal)
-refusal-gives k laws request line why text (Ok refusal) h i = record { reply = refused why; answers = h; text_is = i.0; refused_is = i.1 }
-refusal-gives k laws request line why text (Err e) h i = tt
+-- a reply that refuses
+pub gives-refused : (n : ℕ) (text why : List ℕ) (flag : Bool) (P : Reply → Type 0) → P (refused why) → (text ≡ reply_text n (refused why)) × (flag ≡ true) → Gives n text flag P
+gives-refused n text why flag P p h = record { reply = refused why; is = p; text_is = h.0; refused_is = h.1 }
+
+-- the same reply says something else
+pub gives-other : (n : ℕ) (text : List ℕ) (flag : Bool) (P Q : Reply → Type 0) → ((r : Reply) → P r → Q r) → Gives n text flag P → Gives n text flag Q
+gives-other n text flag P Q f g = record { reply = g.reply; is = f g.reply g.is; text_is = g.text_is; refused_is = g.refused_is }
 
 -- the number of a law, as the list of laws answers it
-pub numbered-is : (l : LawList) (p : Equation) (n line : ℕ) (text : List ℕ) (r : Result Bool AllocError)
-    → IsNumbered l p (Is n)
-    → IfOk r (λ refusal. (text ≡ reply_text line (law_reply n (entry_at l.equations n))) × (refusal ≡ is_refusal (law_reply n (entry_at l.equations n))))
-    → IfOk r (λ refusal. GivesNumbered l.order l.equations p line text refusal)
-numbered-is l p n line text (Ok refusal) h i = record { reply = law_reply n (entry_at l.equations n); replies = numbered n h.0 h.2 refl; text_is = i.0; refused_is = i.1 }
-numbered-is l p n line text (Err e) h i = tt
-
-pub numbered-trivial : (l : LawList) (p : Equation) (line : ℕ) (text : List ℕ) (r : Result Bool AllocError)
-    → IsNumbered l p Trivial
-    → IfOk r (λ refusal. (text ≡ reply_text line (refused (codes "trivial"))) × (refusal ≡ true))
-    → IfOk r (λ refusal. GivesNumbered l.order l.equations p line text refusal)
-numbered-trivial l p line text (Ok refusal) h i = record { reply = refused (codes "trivial"); replies = trivial h.0 h.1 refl; text_is = i.0; refused_is = i.1 }
-numbered-trivial l p line text (Err e) h i = tt
+pub numbered-is : (l : LawList) (p : Equation) (n line : ℕ) (text : List ℕ) (flag : Bool) → IsNumbered l p (Is n)
+    → (text ≡ reply_text line (law_reply n (entry_at l.equations n))) × (flag ≡ is_refusal (law_reply n (entry_at l.equations n)))
+    → Gives line text flag (NumberedReply l.order l.equations p)
+numbered-is l p n line text flag h i = record { reply = law_reply n (entry_at l.equations n); is = numbered n h.0 h.2 refl; text_is = i.0; refused_is = i.1 }
 
 few_ops : (t : Tree) → leaves t ≤ side_limit → min (ops t) 65536 ≡ ops t
 few_ops t h = let e = leaves_ops t in omega (arith, e, h)
 
-pub numbered-many : (l : LawList) (p : Equation) (n line : ℕ) (text : List ℕ) (r : Result Bool AllocError)
-    → IsNumbered l p (TooManyOps n) → leaves p.left ≤ side_limit → leaves p.right ≤ side_limit
-    → IfOk r (λ refusal. (text ≡ reply_text line (refused (codes "operations " ++ decimal n))) × (refusal ≡ true))
-    → IfOk r (λ refusal. GivesNumbered l.order l.equations p line text refusal)
-numbered-many l p n line text (Ok refusal) h left right i =
+pub numbered-many : (l : LawList) (p : Equation) (n line : ℕ) (text : List ℕ) (flag : Bool) → IsNumbered l p (TooManyOps n) → leaves p.left ≤ side_limit → leaves p.right ≤ side_limit
+    → (text ≡ reply_text line (refused (codes "operations " ++ decimal n))) × (flag ≡ true) → Gives line text flag (NumberedReply l.order l.equations p)
+numbered-many l p n line text flag h left right i =
     let count : n ≡ law_ops p = h.1 ∙ (λ j. few_ops p.left left j + few_ops p.right right j) in
-    record { reply = refused (codes "operations " ++ decimal n); replies = too_many h.0 (ap (λ m. refused (codes "operations " ++ decimal m)) count); text_is = i.0; refused_is = i.1 }
-numbered-many l p n line text (Err e) h left right i = tt
+    record { reply = refused (codes "operations " ++ decimal n); is = too_many h.0 (ap (λ m. refused (codes "operations " ++ decimal m)) count); text_is = i.0; refused_is = i.1 }
 
--- a text that is read
-pub read-gives : (k : ℕ) (laws : List Equation) (spelling : List ℕ) (p : Equation) (line : ℕ) (text : List ℕ) (r : Result Bool AllocError)
-    → SpellsLaw spelling p → leaves p.left ≤ side_limit → leaves p.right ≤ side_limit
-    → IfOk r (λ refusal. GivesNumbered k laws p line text refusal)
-    → IfOk r (λ refusal. GivesAnswer k laws (number spelling) line text refusal)
-read-gives k laws spelling p line text (Ok refusal) s left right i = record { reply = i.reply; answers = read p s left right i.replies; text_is = i.text_is; refused_is = i.refused_is }
-read-gives k laws spelling p line text (Err e) s left right i = tt
+-- a reply after which the same files stand
+pub answers-kept : (o : Opened) (request : Request) (n : ℕ) (text : List ℕ) (flag : Bool) (P : Reply → Type 0) → Agrees o → ((r : Reply) → P r → Answers (opened_of o) request r o.ledger.files)
+    → Gives n text flag P → GivesThen n text flag (Answers (opened_of o) request) (Leaves o o)
+answers-kept o request n text flag P a f g = record { reply = g.reply; files = o.ledger.files; is = f g.reply g.is; stands = kept o a; text_is = g.text_is; refused_is = g.refused_is }
 
--- a text that is refused
-pub unread-gives : (k : ℕ) (laws : List Equation) (spelling : List ℕ) (e : TextRefusal) (line : ℕ) (text : List ℕ) (r : Result Bool AllocError)
-    → RefusesLaw spelling e → e ≢ NoMemory
-    → IfOk r (λ refusal. (text ≡ reply_text line (refused (text_refusal e))) × (refusal ≡ true))
-    → IfOk r (λ refusal. GivesAnswer k laws (number spelling) line text refusal)
-unread-gives k laws spelling e line text (Ok refusal) h n i = record { reply = refused (text_refusal e); answers = unread e h n refl; text_is = i.0; refused_is = i.1 }
-unread-gives k laws spelling e line text (Err f) h n i = tt
+-- an answer once the laws stand
+open-answered : (o : States.Opened) (n : ℕ) (request : Request) (reply : Reply) (after : List File) → Answers o request reply after
+    → OpenReply o n request reply (over (record { laws = o.laws; files = after }))
+open-answered o n blank reply after h = (after, h, refl)
+open-answered o n long reply after h = (after, h, refl)
+open-answered o n (order k) reply after h = (after, h, refl)
+open-answered o n (law m) reply after h = (after, h, refl)
+open-answered o n (number text) reply after h = (after, h, refl)
+open-answered o n (dual m) reply after h = (after, h, refl)
+open-answered o n (ask e f) reply after h = (after, h, refl)
+open-answered o n (file word) reply after h = absurd h
+open-answered o n (withdraw word) reply after h = (after, h, refl)
+open-answered o n files reply after h = (after, h, refl)
+open-answered o n counts reply after h = (after, h, refl)
+open-answered o n not_built reply after h = (after, h, refl)
+open-answered o n bad reply after h = (after, h, refl)
+
+pub opens-answer : (o p : Opened) (request : Request) (n : ℕ) (text : List ℕ) (flag : Bool) → GivesThen n text flag (Answers (opened_of o) request) (Leaves o p)
+    → GivesOpen (opened_of o) n request text flag (IsStage (Some p) None)
+opens-answer o p request n text flag g = record {
+  reply = g.reply;
+  after = over (record { laws = o.laws; files = g.files });
+  replies = open-answered (opened_of o) n request g.reply g.files g.is;
+  stands = rw (g.stands.same_laws, g.stands.files_are) refl;
+  text_is = g.text_is;
+  refused_is = g.refused_is;
+}
 
 -- the first command that isn't blank and doesn't set the order opens the list of order 4
-pub first-replies : (k : ℕ) (laws : List Equation) (command : Command) (line : ℕ) (text : List ℕ) (refusal : Bool)
-    → k ≡ 4 → IsTheList 4 laws → (command ≡ Blank → ⊥) → ((o : ListOrder) → command ≡ Order o → ⊥)
-    → GivesAnswer k laws (request_from command) line text refusal → GivesReply unopened (request_from command) line text refusal (over k laws)
-first-replies k laws Blank line text refusal e l b o g = absurd (b refl)
-first-replies k laws (Order n) line text refusal e l b o g = absurd (o n refl)
-first-replies k laws Long line text refusal e l b o g = record { reply = g.reply; replies = (laws, l, subst (λ i. Answers i laws (request_from Long) g.reply) e g.answers, ap (λ i. over i laws) e); text_is = g.text_is; refused_is = g.refused_is }
-first-replies k laws (Law n) line text refusal e l b o g = record { reply = g.reply; replies = (laws, l, subst (λ i. Answers i laws (request_from (Law n)) g.reply) e g.answers, ap (λ i. over i laws) e); text_is = g.text_is; refused_is = g.refused_is }
-first-replies k laws (Number s) line text refusal e l b o g = record { reply = g.reply; replies = (laws, l, subst (λ i. Answers i laws (request_from (Number s)) g.reply) e g.answers, ap (λ i. over i laws) e); text_is = g.text_is; refused_is = g.refused_is }
-first-replies k laws (Dual n) line text refusal e l b o g = record { reply = g.reply; replies = (laws, l, subst (λ i. Answers i laws (request_from (Dual n)) g.reply) e g.answers, ap (λ i. over i laws) e); text_is = g.text_is; refused_is = g.refused_is }
-first-replies k laws NotBuilt line text refusal e l b o g = record { reply = g.reply; replies = (laws, l, subst (λ i. Answers i laws (request_from NotBuilt) g.reply) e g.answers, ap (λ i. over i laws) e); text_is = g.text_is; refused_is = g.refused_is }
-first-replies k laws Bad line text refusal e l b o g = record { reply = g.reply; replies = (laws, l, subst (λ i. Answers i laws (request_from Bad) g.reply) e g.answers, ap (λ i. over i laws) e); text_is = g.text_is; refused_is = g.refused_is }
+pub first-gives : (command : Command) (n : ℕ) (text : List ℕ) (flag : Bool) (IsAfter : State → Type 0) → (command ≡ Blank → ⊥) → ((k : ListOrder) → command ≡ Order k → ⊥)
+    → GivesOpened n (request_from command) text flag IsAfter → GivesFirst n (request_from command) text flag IsAfter
+first-gives command n text flag IsAfter b k g = record { reply = g.gives.reply; after = g.gives.after; replies = by command b k g.gives.replies; stands = g.gives.stands; text_is = g.gives.text_is; refused_is = g.gives.refused_is }
+  where
+    by : (command : Command) → (command ≡ Blank → ⊥) → ((k : ListOrder) → command ≡ Order k → ⊥) → OpenReply g.opened n (request_from command) g.gives.reply g.gives.after
+        → FirstReply n (request_from command) g.gives.reply g.gives.after
+    by Blank b k h = absurd (b refl)
+    by Long b k h = (g.opened, g.opens, h)
+    by (Order o) b k h = absurd (k o refl)
+    by (Law m) b k h = (g.opened, g.opens, h)
+    by (Number t) b k h = (g.opened, g.opens, h)
+    by (Dual m) b k h = (g.opened, g.opens, h)
+    by (Ask e f) b k h = (g.opened, g.opens, h)
+    by (FileCommand w) b k h = (g.opened, g.opens, h)
+    by (Withdraw w) b k h = (g.opened, g.opens, h)
+    by Files b k h = (g.opened, g.opens, h)
+    by Counts b k h = (g.opened, g.opens, h)
+    by NotBuilt b k h = (g.opened, g.opens, h)
+    by Bad b k h = (g.opened, g.opens, h)

@@ -14,10 +14,13 @@ use Rattle.etp_io.specs.Answers.{Fits, GivesLines, PartGives, to_come, says}
 use Rattle.etp_io.specs.declared.lines.Next.{Next}
 use Rattle.etp_io.specs.declared.lines.Next.TheVariants.{Line, Long, End}
 use Rattle.etp_io.proofs.Laws.{Appends-then, Appends-none, IsPrefix-all, Loses-then, Loses-none, lines_of-append}
-use Rattle.etp_session.specs.Requests.{asked}
-use Rattle.etp_session.specs.Replies.{State, unopened, reply_text, is_refusal}
-use Rattle.etp_session.specs.Sessions.{Item, Session, IsSession, Begins, items_from, items_of}
-use Rattle.etp_session.specs.Given.{line_text, GivesReply, WritesReply, WritesNothing, WritesSome}
+use Rattle.etp_session.specs.Texts.{reply_text, is_refusal}
+use Rattle.etp_session.specs.States.{State, unopened}
+use Rattle.etp_session.specs.Replies.{answered_line}
+use Rattle.etp_session.specs.Sessions.{Item, Session, IsSession, AnswersLines, BeginsInLines, Begins, in_lines, at_end, items_from, items_of}
+use Rattle.etp_session.specs.declared.serving.Ending.{Ending}
+use Rattle.etp_session.specs.declared.serving.Ending.TheVariants.{Done, ReadFault, WriteFault, NoMemory, TooMuch}
+use Rattle.etp_session.specs.Given.{IsDone, IsCut, IsEnd, line_text, GivesReply, GivesClose, WritesReply, WritesNothing, WritesSome, WritesClose, WritesSomeOfClose}
 use Rattle.etp_session.specs.Ends.{WritesPrefix, WritesWholeLines, EndsWell, Takes, TakesWithin, StopsAtFault}
 use Rattle.etp_session.proofs.Parts.{to_last_newline-both, to_last_newline-take}
 use Rattle.etp_session.proofs.SessionLemmas.{Session-then, items_from-append}
@@ -36,8 +39,10 @@ KnownSofar ended number None coming text bad state = Unit {0}
 KnownSofar ended number (Some bytes) None text bad state = ⊥
 KnownSofar ended number (Some bytes) (Some coming) text bad state = Sofar ended number bytes coming text bad state
 
-pub record Running (told left : Option (List ℕ)) (last : ℕ) (took_before took : Option (List ℕ)) (given_before given : ℕ) (limit : ℕ) (reader : Reader) (bad : Bool) (state : State) : Type 0 where
+pub record Running (told left : Option (List ℕ)) (last : ℕ) (took_before took : Option (List ℕ)) (given_before given : ℕ) (limit : ℕ) (reader : Reader) (bad : Bool) (IsNow : State → Type 0) : Type 0 where
   pub text : List ℕ
+  pub state : State
+  pub stands : IsNow state
   pub written : Appends took_before took text
   pub sofar : KnownSofar reader.ended reader.number told (to_come reader left) text bad state
   pub fits : Fits reader left last
@@ -53,44 +58,44 @@ no_part [] now e = refl
 no_part (b ∷ part) now e = absurd (cc)
 
 -- a line was answered
-line-then : (ended ended' : Bool) (number number' : ℕ) (bytes coming coming' text more : List ℕ) (bad also : Bool) (line : LineText) (state state' : State)
+line-then : (ended ended' : Bool) (number number' : ℕ) (bytes coming coming' text more : List ℕ) (bad also : Bool) (line : LineText) (state : State) (IsAfter : State → Type 0)
     → Sofar ended number bytes coming text bad state → PartGives ended' coming coming' (line ∷ []) → number' ≡ number + 1
-    → GivesReply state (asked line) number' more also state'
-    → Sofar ended' number' bytes coming' (text ++ more) (bad || also) state'
-line-then true ended' number number' bytes coming coming' text more bad also line state state' h g e r =
+    → (r : GivesReply state number' line more also IsAfter)
+    → Sofar ended' number' bytes coming' (text ++ more) (bad || also) r.after
+line-then true ended' number number' bytes coming coming' text more bad also line state IsAfter h g e r =
     let none : g.part ≡ [] = no_part g.part coming' (sym (h.over refl) ∙ g.joined) in
     let lines : [] ≡ line ∷ [] = sym (ap lines_of none) ∙ g.lines in
     absurd (cc)
-line-then false ended' number number' bytes coming coming' text more bad also line state state' h g e r =
-    let item : Item = record { number = number + 1; line = line } in
+line-then false ended' number number' bytes coming coming' text more bad also line state IsAfter h g e r =
+    let item : Item = record { number = number'; line = line } in
     let whole : to_last_newline h.part ≡ h.part = h.newline refl in
     let lines : lines_of (h.part ++ g.part) ≡ lines_of h.part ++ line ∷ [] = lines_of-append h.part g.part whole ∙ ap (λ (l : List LineText). lines_of h.part ++ l) g.lines in
-    let counts : 1 + length (lines_of h.part) ≡ number + 1 = omega (arith, h.counted) in
+    let counts : 1 + length (lines_of h.part) ≡ number' = omega (arith, h.counted, e) in
     let items : items_of (h.part ++ g.part) ≡ items_of h.part ++ item ∷ [] =
     ap (items_from 1) lines ∙ items_from-append 1 (lines_of h.part) (line ∷ []) ∙ ap (λ n. items_of h.part ++ items_from n (line ∷ [])) counts in
-    let grown : Session unopened (items_of h.part ++ item ∷ []) (text ++ reply_text (number + 1) r.reply) (bad || is_refusal r.reply) state' =
-    Session-then unopened state state' (items_of h.part) item text bad r.reply h.session r.replies in
+    let grown : Session unopened (items_of h.part ++ item ∷ []) (text ++ reply_text (answered_line state number') r.reply) (bad || is_refusal r.reply) r.after =
+    Session-then unopened state r.after (items_of h.part) item text bad r.reply h.session r.replies in
     record {
       part = h.part ++ g.part;
       joined = h.joined ∙ ap (λ (l : List ℕ). h.part ++ l) g.joined ∙ sym (append_assoc h.part g.part coming');
       counted = ap (λ (l : List LineText). length l) lines ∙ length-append (lines_of h.part) (line ∷ []) ∙ ap (λ n. n + 1) h.counted ∙ sym e;
       newline = λ open_still. to_last_newline-both h.part g.part whole (g.newline open_still);
       over = g.over;
-      session = rw (items, r.text_is, r.refused_is, e) grown;
+      session = rw (items, r.text_is, r.refused_is) grown;
     }
 
-KnownSofar-then : (ended ended' : Bool) (number number' : ℕ) (told coming coming' : Option (List ℕ)) (text more : List ℕ) (bad also : Bool) (line : LineText) (state state' : State)
+KnownSofar-then : (ended ended' : Bool) (number number' : ℕ) (told coming coming' : Option (List ℕ)) (text more : List ℕ) (bad also : Bool) (line : LineText) (state : State) (IsAfter : State → Type 0)
     → KnownSofar ended number told coming text bad state → GivesLines ended' coming coming' (line ∷ []) → number' ≡ number + 1
-    → GivesReply state (asked line) number' more also state'
-    → KnownSofar ended' number' told coming' (text ++ more) (bad || also) state'
-KnownSofar-then ended ended' number number' None coming coming' text more bad also line state state' h g e r = tt
-KnownSofar-then ended ended' number number' (Some bytes) None coming' text more bad also line state state' h g e r = absurd h
-KnownSofar-then ended ended' number number' (Some bytes) (Some c) None text more bad also line state state' h g e r = absurd g
-KnownSofar-then ended ended' number number' (Some bytes) (Some c) (Some d) text more bad also line state state' h g e r =
-    line-then ended ended' number number' bytes c d text more bad also line state state' h g e r
+    → (r : GivesReply state number' line more also IsAfter)
+    → KnownSofar ended' number' told coming' (text ++ more) (bad || also) r.after
+KnownSofar-then ended ended' number number' None coming coming' text more bad also line state IsAfter h g e r = tt
+KnownSofar-then ended ended' number number' (Some bytes) None coming' text more bad also line state IsAfter h g e r = absurd h
+KnownSofar-then ended ended' number number' (Some bytes) (Some c) None text more bad also line state IsAfter h g e r = absurd g
+KnownSofar-then ended ended' number number' (Some bytes) (Some c) (Some d) text more bad also line state IsAfter h g e r =
+    line-then ended ended' number number' bytes c d text more bad also line state IsAfter h g e r
 
 -- it ends between two lines
-begins : (ended : Bool) (number : ℕ) (bytes coming text : List ℕ) (bad : Bool) (state : State) → Sofar ended number bytes coming text bad state → Begins bytes text
+begins : (ended : Bool) (number : ℕ) (bytes coming text : List ℕ) (bad : Bool) (state : State) → Sofar ended number bytes coming text bad state → BeginsInLines bytes text
 begins true number bytes coming text bad state h =
     let all : bytes ≡ h.part = h.joined ∙ ap (λ (l : List ℕ). h.part ++ l) (h.over refl) ∙ append-nil h.part in
     record { done = items_of h.part; left = []; items = ap items_of all ∙ sym (append-nil (items_of h.part)); text = text; refused = bad; last = state; session = h.session; prefix = IsPrefix-all text }
@@ -108,13 +113,13 @@ begins false number bytes coming text bad state h =
     }
 
 KnownSofar-begins : (ended : Bool) (number : ℕ) (told coming : Option (List ℕ)) (text : List ℕ) (bad : Bool) (state : State)
-    → KnownSofar ended number told coming text bad state → IfSome told (λ bytes. Begins bytes text)
+    → KnownSofar ended number told coming text bad state → IfSome told (λ bytes. BeginsInLines bytes text)
 KnownSofar-begins ended number None coming text bad state h = tt
 KnownSofar-begins ended number (Some bytes) None text bad state h = absurd h
 KnownSofar-begins ended number (Some bytes) (Some c) text bad state h = begins ended number bytes c text bad state h
 
 -- it ends in the middle of a reply
-begins-in : (bytes text front more : List ℕ) → IsPrefix front more → Begins bytes (text ++ more) → Begins bytes (text ++ front)
+begins-in : (bytes text front more : List ℕ) → IsPrefix front more → BeginsInLines bytes (text ++ more) → BeginsInLines bytes (text ++ front)
 begins-in bytes text front more p b = record {
   done = b.done;
   left = b.left;
@@ -129,35 +134,39 @@ begins-in bytes text front more p b = record {
   };
 }
 
+Begins-lines : (told : Option (List ℕ)) (text : List ℕ) → IfSome told (λ bytes. BeginsInLines bytes text) → IfSome told (λ bytes. Begins bytes text)
+Begins-lines None text h = tt
+Begins-lines (Some bytes) text h = in_lines h
+
 KnownSofar-cut : (told : Option (List ℕ)) (text front more : List ℕ) → IsPrefix front more
-    → IfSome told (λ bytes. Begins bytes (text ++ more)) → IfSome told (λ bytes. Begins bytes (text ++ front))
+    → IfSome told (λ bytes. BeginsInLines bytes (text ++ more)) → IfSome told (λ bytes. BeginsInLines bytes (text ++ front))
 KnownSofar-cut None text front more p b = tt
 KnownSofar-cut (Some bytes) text front more p b = begins-in bytes text front more p b
 
 -- it ends with the bytes
 KnownSofar-all : (ended ended' : Bool) (number : ℕ) (told coming coming' : Option (List ℕ)) (text : List ℕ) (bad : Bool) (state : State)
     → KnownSofar ended number told coming text bad state → GivesLines ended' coming coming' [] → IsAtEnd coming'
-    → IfSome told (λ bytes. IsSession bytes text bad)
+    → IfSome told (λ bytes. Session unopened (items_of bytes) text bad state)
 KnownSofar-all ended ended' number None coming coming' text bad state h g a = tt
 KnownSofar-all ended ended' number (Some bytes) None coming' text bad state h g a = absurd h
 KnownSofar-all ended ended' number (Some bytes) (Some c) None text bad state h g a = absurd g
 KnownSofar-all ended ended' number (Some bytes) (Some c) (Some d) text bad state h g a = all ended h
   where
-    all : (ended : Bool) → Sofar ended number bytes c text bad state → IsSession bytes text bad
+    all : (ended : Bool) → Sofar ended number bytes c text bad state → Session unopened (items_of bytes) text bad state
     all true h =
         let same : bytes ≡ h.part = h.joined ∙ ap (λ (l : List ℕ). h.part ++ l) (h.over refl) ∙ append-nil h.part in
-        record { last = state; session = rw same h.session }
+        rw same h.session
     all false h =
         let rest : lines_of c ≡ [] = ap lines_of (g.joined ∙ ap (λ (l : List ℕ). g.part ++ l) a ∙ append-nil g.part) ∙ g.lines in
         let lines : lines_of bytes ≡ lines_of h.part = ap lines_of h.joined ∙ lines_of-append h.part c (h.newline refl) ∙ rw rest (append-nil (lines_of h.part)) in
-        record { last = state; session = rw lines h.session }
+        rw lines h.session
 
 -- it ends where a read failed or the limit was passed: what stands whole before the last read is the part that was answered
 stopped : (number : ℕ) (bytes part held left text : List ℕ) (bad : Bool) (state : State) (taken taken' last : ℕ)
     → bytes ≡ part ++ (held ++ left) → to_last_newline part ≡ part → left ≡ drop taken bytes → taken ≤ length bytes
     → Session unopened (items_of part) text bad state
     → NoNewline (take (length held + (taken' - taken) - last) (held ++ left)) → last ≤ taken' - taken → taken ≤ taken'
-    → IsSession (to_last_newline (take (taken' - last) bytes)) text bad
+    → AnswersLines (to_last_newline (take (taken' - last) bytes)) text bad
 stopped number bytes part held left text bad state taken taken' last joined whole lost many session none small later =
     let size : length bytes ≡ length part + (length held + length left) = ap (λ (l : List ℕ). length l) joined ∙ length-append part (held ++ left) ∙ ap (λ n. length part + n) (length-append held left) in
     let less : length left ≡ length bytes - taken = ap (λ (l : List ℕ). length l) lost ∙ length-drop taken bytes in
@@ -168,7 +177,7 @@ stopped number bytes part held left text bad state taken taken' last joined whol
 KnownSofar-stops : (number : ℕ) (told left : Option (List ℕ)) (held text : List ℕ) (bad : Bool) (state : State) (taken taken' last : ℕ)
     → KnownSofar false number told (prepend_known held left) text bad state → Loses told left taken
     → NoneBefore (prepend_known held left) (length held + (taken' - taken) - last) → last ≤ taken' - taken → taken ≤ taken'
-    → IfSome told (λ bytes. IsSession (to_last_newline (take (taken' - last) bytes)) text bad)
+    → IfSome told (λ bytes. AnswersLines (to_last_newline (take (taken' - last) bytes)) text bad)
 KnownSofar-stops number None left held text bad state taken taken' last h l n small later = tt
 KnownSofar-stops number (Some bytes) None held text bad state taken taken' last h l n small later = absurd h
 KnownSofar-stops number (Some bytes) (Some left) held text bad state taken taken' last h l n small later =
@@ -182,9 +191,12 @@ takes-more told left left' g0 g g' n n' h l r le =
 
 pub starts-running : (told : Option (List ℕ)) (last : ℕ) (took : Option (List ℕ)) (given limit : ℕ) (reader : Reader)
     → reader ≡ record { limit = limit; taken = 0; number = 0; held = []; line = []; ended = false; fault = None }
-    → Running told told last took took given given limit reader false unopened
-starts-running told last took given limit reader e = rw e (record {
+    → (IsNow : State → Type 0) → IsNow unopened
+    → Running told told last took took given given limit reader false IsNow
+starts-running told last took given limit reader e IsNow now = rw e (record {
   text = [];
+  state = unopened;
+  stands = now;
   written = Appends-none took;
   sofar = known told;
   fits = record { at_end = λ h. absurd (false_is_true h); last_gave = λ h. absurd (false_is_true h); held = omega arith };
@@ -207,8 +219,8 @@ says-line Line line n = refl
 says-line Long line n = refl
 says-line End line n = absurd (n refl)
 
-pub running-then : (told left left' : Option (List ℕ)) (last last' : ℕ) (took0 took took' : Option (List ℕ)) (g0 g g' limit : ℕ) (r r' : Reader) (bad also : Bool) (next : Next) (state state' : State)
-    → Running told left last took0 took g0 g limit r bad state
+pub running-then : (told left left' : Option (List ℕ)) (last last' : ℕ) (took0 took took' : Option (List ℕ)) (g0 g g' limit : ℕ) (r r' : Reader) (bad also : Bool) (next : Next) (IsNow IsAfter : State → Type 0)
+    → Running told left last took0 took g0 g limit r bad IsNow
     → (Fits r left last → Fits r' left' last')
     → (Fits r left last → GivesLines r'.ended (to_come r left) (to_come r' left') (says next r'.line))
     → (next ≡ End → ⊥)
@@ -216,15 +228,18 @@ pub running-then : (told left left' : Option (List ℕ)) (last last' : ℕ) (too
     → r'.fault ≡ None → SaysTooMuch r'.limit r'.taken r'.fault → r'.limit ≡ r.limit
     → r'.number ≤ r'.taken → r.taken ≤ r'.taken
     → Loses left left' (r'.taken - r.taken) → RisesBy g g' (r'.taken - r.taken)
-    → WritesReply state (asked (line_text next r'.line)) r'.number took took' also state'
-    → Running told left' last' took0 took' g0 g' limit r' (bad || also) state'
-running-then told left left' last last' took0 took took' g0 g g' limit r r' bad also next state state' h fits lines more number fault says_fault same_limit counted later loses given w =
+    → ((state : State) → IsNow state → WritesReply state r'.number (line_text next r'.line) took took' also IsAfter)
+    → Running told left' last' took0 took' g0 g' limit r' (bad || also) IsAfter
+running-then told left left' last last' took0 took took' g0 g g' limit r r' bad also next IsNow IsAfter h fits lines more number fault says_fault same_limit counted later loses given write =
+    let w = write h.state h.stands in
     let one : says next r'.line ≡ line_text next r'.line ∷ [] = says-line next r'.line more in
     let within : r'.taken ≤ r'.limit = rw fault at says_fault in
     record {
       text = h.text ++ w.text;
       written = Appends-then took0 took took' h.text w.text h.written w.written;
-      sofar = KnownSofar-then r.ended r'.ended r.number r'.number told (to_come r left) (to_come r' left') h.text w.text bad also (line_text next r'.line) state state' h.sofar (rw one at (lines h.fits)) (rw one at number) w.gives;
+      state = w.gives.after;
+      stands = w.gives.stands;
+      sofar = KnownSofar-then r.ended r'.ended r.number r'.number told (to_come r left) (to_come r' left') h.text w.text bad also (line_text next r'.line) h.state IsAfter h.sofar (rw one at (lines h.fits)) (rw one at number) w.gives;
       fits = fits h.fits;
       open_still = fault;
       limited = same_limit ∙ h.limited;
@@ -233,69 +248,146 @@ running-then told left left' last last' took0 took took' g0 g g' limit r r' bad 
       takes = takes-more told left left' g0 g g' r.taken r'.taken h.takes loses given later;
     }
 
+-- the whole text with the reply at its end
+closes-session : (told : Option (List ℕ)) (text : List ℕ) (some bad : Bool) (last : State) → IfSome told (λ bytes. Session unopened (items_of bytes) text some last)
+    → (more : List ℕ) → GivesClose last some more bad → IfSome told (λ bytes. IsSession bytes (text ++ more) bad)
+closes-session None text some bad last h more g = tt
+closes-session (Some bytes) text some bad last h more g = record {
+  front = text;
+  some = some;
+  last = last;
+  session = h;
+  reply = g.reply;
+  closes = g.closes;
+  text_is = ap (λ (l : List ℕ). text ++ l) g.text_is;
+  refused_is = g.bad_is;
+}
+
+at-end : (left : Option (List ℕ)) → IsAtEnd left → IsAtEnd (prepend_known [] left)
+at-end None a = tt
+at-end (Some xs) a = a
+
 -- it ends where the source ends
-pub ends-well : (told left left' : Option (List ℕ)) (last last' : ℕ) (took0 took : Option (List ℕ)) (g0 g limit : ℕ) (r r' : Reader) (bad : Bool) (state : State)
-    → Running told left last took0 took g0 g limit r bad state
+pub ends-well : (told left left' : Option (List ℕ)) (last last' : ℕ) (took0 took took' : Option (List ℕ)) (g0 g limit : ℕ) (r r' : Reader) (bad bad' : Bool) (IsNow : State → Type 0)
+    → Running told left last took0 took g0 g limit r bad IsNow
     → (Fits r left last → Fits r' left' last')
     → (Fits r left last → GivesLines r'.ended (to_come r left) (to_come r' left') [])
     → r'.held ≡ [] → r'.ended ≡ true
-    → EndsWell told left' took0 took last' bad
-ends-well told left left' last last' took0 took g0 g limit r r' bad state h fits lines none ended =
+    → ((state : State) → IsNow state → WritesClose state bad took took' bad')
+    → EndsWell told left' took0 took' last' bad'
+ends-well told left left' last last' took0 took took' g0 g limit r r' bad bad' IsNow h fits lines none ended write =
     let there : IsTrue r'.ended = ended in
     let left_none : IsAtEnd left' = (fits h.fits).at_end there in
+    let w = write h.state h.stands in
     record {
-      writes = record { text = h.text; written = h.written; session = KnownSofar-all r.ended r'.ended r.number told (to_come r left) (to_come r' left') h.text bad state h.sofar (lines h.fits) (rw none (at-end left' left_none)) };
+      writes = record {
+        text = h.text ++ w.text;
+        written = Appends-then took0 took took' h.text w.text h.written w.written;
+        session = closes-session told h.text bad bad' h.state (KnownSofar-all r.ended r'.ended r.number told (to_come r left) (to_come r' left') h.text bad h.state h.sofar (lines h.fits) (rw none (at-end left' left_none))) w.text w.gives;
+      };
       at_end = left_none;
       last_gave = (fits h.fits).last_gave there;
     }
-  where
-    at-end : (left : Option (List ℕ)) → IsAtEnd left → IsAtEnd (prepend_known [] left)
-    at-end None a = tt
-    at-end (Some xs) a = a
+
+begins-at_end : (told : Option (List ℕ)) (text front more : List ℕ) (bad : Bool) → IsPrefix front more
+    → IfSome told (λ bytes. IsSession bytes (text ++ more) bad) → IfSome told (λ bytes. Begins bytes (text ++ front))
+begins-at_end None text front more bad p h = tt
+begins-at_end (Some bytes) text front more bad p h = at_end (record {
+  text = text ++ more;
+  refused = bad;
+  session = h;
+  prefix = record { rest = p.rest; joined = ap (λ (l : List ℕ). text ++ l) p.joined ∙ sym (append_assoc text front p.rest) };
+})
+
+-- the reply at the end was begun, and the sink failed
+pub ends-in_close : (told left left' : Option (List ℕ)) (last last' : ℕ) (took0 took took' : Option (List ℕ)) (g0 g limit : ℕ) (r r' : Reader) (bad : Bool) (IsNow : State → Type 0)
+    → Running told left last took0 took g0 g limit r bad IsNow
+    → (Fits r left last → Fits r' left' last')
+    → (Fits r left last → GivesLines r'.ended (to_come r left) (to_come r' left') [])
+    → r'.held ≡ [] → r'.ended ≡ true
+    → ((state : State) → IsNow state → WritesSomeOfClose state bad took took')
+    → WritesPrefix told took0 took'
+ends-in_close told left left' last last' took0 took took' g0 g limit r r' bad IsNow h fits lines none ended write =
+    let there : IsTrue r'.ended = ended in
+    let left_none : IsAtEnd left' = (fits h.fits).at_end there in
+    let w = write h.state h.stands in
+    record {
+      text = h.text ++ w.front;
+      written = Appends-then took0 took took' h.text w.front h.written w.written;
+      begins = begins-at_end told h.text w.front w.text w.bad w.prefix
+          (closes-session told h.text bad w.bad h.state (KnownSofar-all r.ended r'.ended r.number told (to_come r left) (to_come r' left') h.text bad h.state h.sofar (lines h.fits) (rw none (at-end left' left_none))) w.text w.gives);
+    }
+
+-- what a close at the end gives, with the session before it
+pub done-close : (r : Ending) (P Q : Bool → Type 0) → IsDone r P → ((bad : Bool) → P bad → Q bad) → IsDone r Q
+done-close (Done bad) P Q h f = f bad h
+done-close ReadFault P Q h f = tt
+done-close WriteFault P Q h f = tt
+done-close NoMemory P Q h f = tt
+done-close TooMuch P Q h f = tt
+
+pub cut-close : (r : Ending) (P : Type 0) → IsEnd r → (r ≡ NoMemory → P) → (r ≡ WriteFault → P) → IsCut r P
+cut-close (Done bad) P h m w = tt
+cut-close ReadFault P h m w = absurd h
+cut-close WriteFault P h m w = w refl
+cut-close NoMemory P h m w = m refl
+cut-close TooMuch P h m w = absurd h
+
+pub no_read : (r : Ending) → IsEnd r → r ≡ ReadFault → ⊥
+no_read r h e = rw e at h
+
+pub no_limit : (r : Ending) → IsEnd r → r ≡ TooMuch → ⊥
+no_limit r h e = rw e at h
 
 -- it ends between two lines
-pub ends-between : (told left : Option (List ℕ)) (last : ℕ) (took0 took : Option (List ℕ)) (g0 g limit : ℕ) (r : Reader) (bad : Bool) (state : State)
-    → Running told left last took0 took g0 g limit r bad state → WritesPrefix told took0 took
-ends-between told left last took0 took g0 g limit r bad state h = record { text = h.text; written = h.written; begins = KnownSofar-begins r.ended r.number told (to_come r left) h.text bad state h.sofar }
+pub ends-between : (told left : Option (List ℕ)) (last : ℕ) (took0 took : Option (List ℕ)) (g0 g limit : ℕ) (r : Reader) (bad : Bool) (IsNow : State → Type 0)
+    → Running told left last took0 took g0 g limit r bad IsNow → WritesPrefix told took0 took
+ends-between told left last took0 took g0 g limit r bad IsNow h = record { text = h.text; written = h.written; begins = Begins-lines told h.text (KnownSofar-begins r.ended r.number told (to_come r left) h.text bad h.state h.sofar) }
 
-pub takes-within : (told left left' : Option (List ℕ)) (last : ℕ) (took0 took : Option (List ℕ)) (g0 g g' limit : ℕ) (r r' : Reader) (bad : Bool) (state : State)
-    → Running told left last took0 took g0 g limit r bad state
+-- what was taken in all
+pub takes-now : (told left left' : Option (List ℕ)) (last : ℕ) (took0 took : Option (List ℕ)) (g0 g g' limit : ℕ) (r r' : Reader) (bad : Bool) (IsNow : State → Type 0)
+    → Running told left last took0 took g0 g limit r bad IsNow
+    → r.taken ≤ r'.taken → Loses left left' (r'.taken - r.taken) → RisesBy g g' (r'.taken - r.taken) → Takes told left' g0 g' r'.taken
+takes-now told left left' last took0 took g0 g g' limit r r' bad IsNow h later loses given = takes-more told left left' g0 g g' r.taken r'.taken h.takes loses given later
+
+pub takes-within : (told left left' : Option (List ℕ)) (last : ℕ) (took0 took : Option (List ℕ)) (g0 g g' limit : ℕ) (r r' : Reader) (bad : Bool) (IsNow : State → Type 0)
+    → Running told left last took0 took g0 g limit r bad IsNow
     → r'.taken ≤ r'.limit → r'.limit ≡ r.limit → r.taken ≤ r'.taken
     → Loses left left' (r'.taken - r.taken) → RisesBy g g' (r'.taken - r.taken)
     → TakesWithin told left' g0 g' limit
-takes-within told left left' last took0 took g0 g g' limit r r' bad state h within same_limit later loses given =
+takes-within told left left' last took0 took g0 g g' limit r r' bad IsNow h within same_limit later loses given =
     record { count = r'.taken; within = omega (arith, within, same_limit, h.limited); takes = takes-more told left left' g0 g g' r.taken r'.taken h.takes loses given later }
 
 -- it ends where a read failed or the limit was passed
-pub stops : (told left : Option (List ℕ)) (last last' : ℕ) (took0 took : Option (List ℕ)) (g0 g limit : ℕ) (r r' : Reader) (bad : Bool) (state : State)
-    → Running told left last took0 took g0 g limit r bad state
+pub stops : (told left : Option (List ℕ)) (last last' : ℕ) (took0 took : Option (List ℕ)) (g0 g limit : ℕ) (r r' : Reader) (bad : Bool) (IsNow : State → Type 0)
+    → Running told left last took0 took g0 g limit r bad IsNow
     → r.ended ≡ false
     → NoneBefore (to_come r left) (length r.held + (r'.taken - r.taken) - last')
     → last' ≤ r'.taken - r.taken → r.taken ≤ r'.taken
     → WritesWholeLines told took0 took (r'.taken - last')
-stops told left last last' took0 took g0 g limit r r' bad state h not_ended none small later = record {
+stops told left last last' took0 took g0 g limit r r' bad IsNow h not_ended none small later = record {
   text = h.text;
   refused = bad;
   written = h.written;
-  session = KnownSofar-stops r.number told left r.held h.text bad state r.taken r'.taken last' (rw not_ended at h.sofar) h.takes.loses none small later;
+  session = KnownSofar-stops r.number told left r.held h.text bad h.state r.taken r'.taken last' (rw not_ended at h.sofar) h.takes.loses none small later;
 }
 
 -- a read failed
-pub stops-at_fault : (told left left' : Option (List ℕ)) (last last' : ℕ) (took0 took : Option (List ℕ)) (g0 g g' limit : ℕ) (r r' : Reader) (bad : Bool) (state : State)
-    → Running told left last took0 took g0 g limit r bad state
+pub stops-at_fault : (told left left' : Option (List ℕ)) (last last' : ℕ) (took0 took : Option (List ℕ)) (g0 g g' limit : ℕ) (r r' : Reader) (bad : Bool) (IsNow : State → Type 0)
+    → Running told left last took0 took g0 g limit r bad IsNow
     → r.ended ≡ false
     → NoneBefore (to_come r left) (length r.held + (r'.taken - r.taken) - last')
     → last' ≡ 0
     → r'.taken ≤ r'.limit → r'.limit ≡ r.limit → r.taken ≤ r'.taken
     → Loses left left' (r'.taken - r.taken) → RisesBy g g' (r'.taken - r.taken)
     → StopsAtFault told left' took0 took g0 g' limit
-stops-at_fault told left left' last last' took0 took g0 g g' limit r r' bad state h not_ended none no_last within same_limit later loses given =
+stops-at_fault told left left' last last' took0 took g0 g g' limit r r' bad IsNow h not_ended none no_last within same_limit later loses given =
     let all : r'.taken - last' ≡ r'.taken = omega arith in
     record {
       count = r'.taken;
       within = omega (arith, within, same_limit, h.limited);
       takes = takes-more told left left' g0 g g' r.taken r'.taken h.takes loses given later;
-      writes = rw all at (stops told left last last' took0 took g0 g limit r r' bad state h not_ended none (omega arith) later);
+      writes = rw all at (stops told left last last' took0 took g0 g limit r r' bad IsNow h not_ended none (omega arith) later);
     }
 
 -- a call that fails made a read, so the source had not ended
@@ -304,28 +396,29 @@ goes-on result fault true e h = let both : Err fault ≡ Ok End = sym e ∙ h re
 goes-on result fault false e h = refl
 
 -- a reply was begun, and the sink failed
-pub ends-in_reply : (told left left' : Option (List ℕ)) (last : ℕ) (took0 took took' : Option (List ℕ)) (g0 g limit : ℕ) (r r' : Reader) (bad : Bool) (next : Next) (state : State)
-    → Running told left last took0 took g0 g limit r bad state
+pub ends-in_reply : (told left left' : Option (List ℕ)) (last : ℕ) (took0 took took' : Option (List ℕ)) (g0 g limit : ℕ) (r r' : Reader) (bad : Bool) (next : Next) (IsNow IsAfter : State → Type 0)
+    → Running told left last took0 took g0 g limit r bad IsNow
     → (Fits r left last → GivesLines r'.ended (to_come r left) (to_come r' left') (says next r'.line))
     → (next ≡ End → ⊥)
     → r'.number ≡ r.number + length (says next r'.line)
-    → WritesSome state (asked (line_text next r'.line)) r'.number took took'
+    → ((state : State) → IsNow state → WritesSome state r'.number (line_text next r'.line) took took' IsAfter)
     → WritesPrefix told took0 took'
-ends-in_reply told left left' last took0 took took' g0 g limit r r' bad next state h lines more number w =
+ends-in_reply told left left' last took0 took took' g0 g limit r r' bad next IsNow IsAfter h lines more number write =
+    let w = write h.state h.stands in
     let one : says next r'.line ≡ line_text next r'.line ∷ [] = says-line next r'.line more in
-    let grown : KnownSofar r'.ended r'.number told (to_come r' left') (h.text ++ w.text) (bad || w.refused) w.after =
-    KnownSofar-then r.ended r'.ended r.number r'.number told (to_come r left) (to_come r' left') h.text w.text bad w.refused (line_text next r'.line) state w.after h.sofar (rw one at (lines h.fits)) (rw one at number) w.gives in
+    let grown : KnownSofar r'.ended r'.number told (to_come r' left') (h.text ++ w.text) (bad || w.refused) w.gives.after =
+    KnownSofar-then r.ended r'.ended r.number r'.number told (to_come r left) (to_come r' left') h.text w.text bad w.refused (line_text next r'.line) h.state IsAfter h.sofar (rw one at (lines h.fits)) (rw one at number) w.gives in
     record {
       text = h.text ++ w.front;
       written = Appends-then took0 took took' h.text w.front h.written w.written;
-      begins = KnownSofar-cut told h.text w.front w.text w.prefix (KnownSofar-begins r'.ended r'.number told (to_come r' left') (h.text ++ w.text) (bad || w.refused) w.after grown);
+      begins = Begins-lines told (h.text ++ w.front) (KnownSofar-cut told h.text w.front w.text w.prefix (KnownSofar-begins r'.ended r'.number told (to_come r' left') (h.text ++ w.text) (bad || w.refused) w.gives.after grown));
     }
 
 -- memory was wanting before a reply was begun
-pub ends-before_reply : (told left : Option (List ℕ)) (last : ℕ) (took0 took took' : Option (List ℕ)) (g0 g limit : ℕ) (r : Reader) (bad : Bool) (state : State)
-    → Running told left last took0 took g0 g limit r bad state → WritesNothing took took' → WritesPrefix told took0 took'
-ends-before_reply told left last took0 took took' g0 g limit r bad state h w = record {
+pub ends-before_reply : (told left : Option (List ℕ)) (last : ℕ) (took0 took took' : Option (List ℕ)) (g0 g limit : ℕ) (r : Reader) (bad : Bool) (IsNow : State → Type 0)
+    → Running told left last took0 took g0 g limit r bad IsNow → WritesNothing took took' → WritesPrefix told took0 took'
+ends-before_reply told left last took0 took took' g0 g limit r bad IsNow h w = record {
   text = h.text ++ [];
   written = Appends-then took0 took took' h.text [] h.written w.written;
-  begins = rw (append-nil h.text) (KnownSofar-begins r.ended r.number told (to_come r left) h.text bad state h.sofar);
+  begins = rw (append-nil h.text) (Begins-lines told h.text (KnownSofar-begins r.ended r.number told (to_come r left) h.text bad h.state h.sofar));
 }

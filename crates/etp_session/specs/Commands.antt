@@ -1,8 +1,10 @@
 -- Which request a command of the program stands for.
-use Rattle.std.specs.Prelude.{ℕ, ◌≤◌, length}
-use Rattle.etp_session.specs.Requests.{Request, blank, long, order, law, number, dual, not_built, bad}
+use Rattle.std.specs.Prelude.{ℕ, ◌≤◌, length, None, Some}
+use Rattle.std.specs.declared.option.Option.{Option}
+use Rattle.std.specs.Option.{option_copied}
+use Rattle.etp_session.specs.Requests.{Request, blank, long, order, law, number, dual, ask, file, withdraw, files, counts, not_built, bad}
 use Rattle.etp_session.specs.declared.command.Command.{Command}
-use Rattle.etp_session.specs.declared.command.Command.TheVariants.{Blank, Long, Order, Law, Number, Dual, NotBuilt, Bad}
+use Rattle.etp_session.specs.declared.command.Command.TheVariants.{Blank, Long, Order, Law, Number, Dual, Ask, File, Withdraw, Files, Counts, NotBuilt, Bad}
 use Rattle.etp_session.specs.declared.command.ListOrder.{ListOrder}
 use Rattle.etp_session.specs.declared.command.ListOrder.TheVariants.{Four, Five}
 
@@ -18,8 +20,23 @@ request_from (Order k) = order (operations_of k)
 request_from (Law n) = law n
 request_from (Number text) = number text.now
 request_from (Dual n) = dual n
+request_from (Ask e f) = ask e f
+request_from (File word) = file (option_copied word)
+request_from (Withdraw word) = withdraw word.now
+request_from Files = files
+request_from Counts = counts
 request_from NotBuilt = not_built
 request_from Bad = bad
+
+-- a pair of numbers, where both stood
+abbrev pub pair_from : Option (ℕ × ℕ) → Request
+pair_from None = bad
+pair_from (Some p) = ask p.0 p.1
+
+-- it opens no body
+abbrev pub IsNoFile : Command → Type 0
+IsNoFile (File word) = ⊥
+IsNoFile _ = Unit {0}
 
 -- the text of `number` has at most so many bytes
 abbrev pub IsWithin : ℕ → Command → Type 0
@@ -29,5 +46,10 @@ IsWithin most (Order k) = Unit {0}
 IsWithin most (Law n) = Unit {0}
 IsWithin most (Number text) = length text.now ≤ most
 IsWithin most (Dual n) = Unit {0}
+IsWithin most (Ask e f) = Unit {0}
+IsWithin most (File word) = Unit {0}
+IsWithin most (Withdraw word) = Unit {0}
+IsWithin most Files = Unit {0}
+IsWithin most Counts = Unit {0}
 IsWithin most NotBuilt = Unit {0}
 IsWithin most Bad = Unit {0}

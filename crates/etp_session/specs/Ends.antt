@@ -4,7 +4,7 @@ use Rattle.std.specs.declared.option.Option.{Option}
 use Rattle.std.specs.Io.KnownBytes.{Appends, IsAtEnd}
 use Rattle.etp_io.specs.Stream.{Loses}
 use Rattle.etp_io.specs.Texts.{to_last_newline}
-use Rattle.etp_session.specs.Sessions.{IsSession, Begins}
+use Rattle.etp_session.specs.Sessions.{IsSession, AnswersLines, Begins}
 
 -- the whole text was written
 pub record WritesAll (left took_before took_after : Option (List ℕ)) (refused : Bool) : Type 0 where
@@ -29,7 +29,7 @@ pub record WritesWholeLines (left took_before took_after : Option (List ℕ)) (n
   pub text : List ℕ
   pub refused : Bool
   pub written : Appends took_before took_after text
-  pub session : IfSome left (λ bytes. IsSession (to_last_newline (take n bytes)) text refused)
+  pub session : IfSome left (λ bytes. AnswersLines (to_last_newline (take n bytes)) text refused)
 
 -- so many bytes were taken from the source
 pub record Takes (left left_after : Option (List ℕ)) (given given_after n : ℕ) : Type 0 where

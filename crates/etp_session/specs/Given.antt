@@ -1,16 +1,21 @@
 -- What the parts of a session give: the reply to a command, and how much of it was written.
-use Rattle.std.specs.Prelude.{◌≡◌, ℕ, List, [], Bool, true, false}
+use Rattle.std.specs.Prelude.{◌≡◌, ℕ, List, [], ◌++◌, Bool, true, false, ◌||◌, codes, slice_get}
 use Rattle.std.specs.declared.option.Option.{Option}
 use Rattle.std.specs.Io.KnownBytes.{Appends}
+use Rattle.std.specs.Prelude.{None, Some}
+use Rattle.std.specs.Borrow.{Bor}
 use Rattle.etp_io.specs.declared.lines.Next.{Next}
 use Rattle.etp_io.specs.declared.lines.Next.TheVariants.{Line, Long, End}
 use Rattle.etp_io.specs.Stream.{IsPrefix}
 use Rattle.etp_io.specs.Texts.{LineText, whole, too_long}
-use Rattle.etp_theory.specs.Trees.{Equation}
 use Rattle.etp_session.specs.Requests.{Request}
 use Rattle.etp_session.specs.declared.serving.Ending.{Ending}
 use Rattle.etp_session.specs.declared.serving.Ending.TheVariants.{Done, ReadFault, WriteFault, NoMemory, TooMuch}
-use Rattle.etp_session.specs.Replies.{Reply, reply_text, is_refusal, NumberedReply, Answers, State, Replies}
+use Rattle.etp_ledger.specs.Files.{File}
+use Rattle.etp_session.specs.Texts.{Reply, refused, reply_text, is_refusal}
+use Rattle.etp_session.specs.States.{Opened, Opens, Filing, State}
+use Rattle.etp_session.specs.Bodies.{FileReply}
+use Rattle.etp_session.specs.Replies.{OpenReply, FirstReply, Replies, Closes, answered_line}
 
 -- the line that was read
 abbrev pub line_text : Next → List ℕ → LineText
@@ -18,38 +23,110 @@ line_text Line line = whole line
 line_text Long line = too_long
 line_text End line = too_long
 
--- a request's reply has this text, where these are the laws of at most k operations
-pub record GivesAnswer (k : ℕ) (laws : List Equation) (request : Request) (number : ℕ) (text : List ℕ) (refused : Bool) : Type 0 where
+-- a line that is given: None is a long one
+abbrev pub given_text : Option (Bor (List ℕ)) → LineText
+given_text None = too_long
+given_text (Some line) = whole line.now
+
+-- a reply of which `Is` holds has this text
+pub record Gives (n : ℕ) (text : List ℕ) (refused : Bool) (Is : Reply → Type 0) : Type 0 where
   pub reply : Reply
-  pub answers : Answers k laws request reply
-  pub text_is : text ≡ reply_text number reply
+  pub is : Is reply
+  pub text_is : text ≡ reply_text n reply
   pub refused_is : refused ≡ is_refusal reply
 
--- a request's reply has this text, from one state to another
-pub record GivesReply (before : State) (request : Request) (number : ℕ) (text : List ℕ) (refused : Bool) (after : State) : Type 0 where
+-- the same, and files stand after it of which `IsAfter` holds
+pub record GivesThen (n : ℕ) (text : List ℕ) (refused : Bool) (Is : Reply → List File → Type 0) (IsAfter : List File → Type 0) : Type 0 where
   pub reply : Reply
-  pub replies : Replies before request reply after
-  pub text_is : text ≡ reply_text number reply
+  pub files : List File
+  pub is : Is reply files
+  pub stands : IsAfter files
+  pub text_is : text ≡ reply_text n reply
+  pub refused_is : refused ≡ is_refusal reply
+
+-- a withdrawal is refused, since the file at this place cites the name
+pub record RefusesCited (n : ℕ) (text : List ℕ) (is_refused : Bool) (files : List File) (word : List ℕ) (at : ℕ) : Type 0 where
+  pub by : File
+  pub stands : slice_get files at ≡ Some by
+  pub text_is : text ≡ reply_text n (refused (codes "cited " ++ word ++ codes " by " ++ by.name))
+  pub refused_is : is_refused ≡ true
+
+-- the reply to a file whose body is over has this text
+abbrev pub GivesFile : Opened → Filing → Bool → List ℕ → Bool → (List File → Type 0) → Type 0
+GivesFile o f closed text is_refused IsAfter = GivesThen f.number text is_refused (FileReply o f closed) IsAfter
+
+-- the reply to a request once the laws stand has this text
+pub record GivesOpen (o : Opened) (n : ℕ) (request : Request) (text : List ℕ) (refused : Bool) (IsAfter : State → Type 0) : Type 0 where
+  pub reply : Reply
+  pub after : State
+  pub replies : OpenReply o n request reply after
+  pub stands : IsAfter after
+  pub text_is : text ≡ reply_text n reply
+  pub refused_is : refused ≡ is_refusal reply
+
+-- the reply to a request once the list of order 4 was opened for it has this text
+pub record GivesOpened (n : ℕ) (request : Request) (text : List ℕ) (refused : Bool) (IsAfter : State → Type 0) : Type 0 where
+  pub opened : Opened
+  pub opens : Opens 4 opened
+  pub gives : GivesOpen opened n request text refused IsAfter
+
+-- the reply to a request where nothing stands yet has this text
+pub record GivesFirst (n : ℕ) (request : Request) (text : List ℕ) (refused : Bool) (IsAfter : State → Type 0) : Type 0 where
+  pub reply : Reply
+  pub after : State
+  pub replies : FirstReply n request reply after
+  pub stands : IsAfter after
+  pub text_is : text ≡ reply_text n reply
+  pub refused_is : refused ≡ is_refusal reply
+
+-- the reply to line n has this text, and leaves a state of which `IsAfter` holds
+pub record GivesReply (before : State) (n : ℕ) (line : LineText) (text : List ℕ) (refused : Bool) (IsAfter : State → Type 0) : Type 0 where
+  pub reply : Reply
+  pub after : State
+  pub replies : Replies before n line reply after
+  pub stands : IsAfter after
+  pub text_is : text ≡ reply_text (answered_line before n) reply
   pub refused_is : refused ≡ is_refusal reply
 
 -- a reply was written
-pub record WritesReply (before : State) (request : Request) (number : ℕ) (took_before took_after : Option (List ℕ)) (refused : Bool) (after : State) : Type 0 where
+pub record WritesReply (before : State) (n : ℕ) (line : LineText) (took_before took_after : Option (List ℕ)) (refused : Bool) (IsAfter : State → Type 0) : Type 0 where
   pub text : List ℕ
   pub written : Appends took_before took_after text
-  pub gives : GivesReply before request number text refused after
+  pub gives : GivesReply before n line text refused IsAfter
 
 -- nothing of a reply was written
 pub record WritesNothing (took_before took_after : Option (List ℕ)) : Type 0 where
   pub written : Appends took_before took_after []
 
 -- a prefix of a reply was written
-pub record WritesSome (before : State) (request : Request) (number : ℕ) (took_before took_after : Option (List ℕ)) : Type 0 where
+pub record WritesSome (before : State) (n : ℕ) (line : LineText) (took_before took_after : Option (List ℕ)) (IsAfter : State → Type 0) : Type 0 where
   pub text : List ℕ
   pub front : List ℕ
   pub refused : Bool
-  pub after : State
   pub written : Appends took_before took_after front
-  pub gives : GivesReply before request number text refused after
+  pub gives : GivesReply before n line text refused IsAfter
+  pub prefix : IsPrefix front text
+
+-- the reply at the end of the source has this text; `bad`: a line was refused before or is by it
+pub record GivesClose (last : State) (bad_before : Bool) (text : List ℕ) (bad : Bool) : Type 0 where
+  pub reply : Reply
+  pub closes : Closes last reply
+  pub text_is : text ≡ reply_text (answered_line last 0) reply
+  pub bad_is : bad ≡ (bad_before || is_refusal reply)
+
+-- it was written
+pub record WritesClose (last : State) (bad_before : Bool) (took_before took_after : Option (List ℕ)) (bad : Bool) : Type 0 where
+  pub text : List ℕ
+  pub written : Appends took_before took_after text
+  pub gives : GivesClose last bad_before text bad
+
+-- a prefix of it was written
+pub record WritesSomeOfClose (last : State) (bad_before : Bool) (took_before took_after : Option (List ℕ)) : Type 0 where
+  pub text : List ℕ
+  pub front : List ℕ
+  pub bad : Bool
+  pub written : Appends took_before took_after front
+  pub gives : GivesClose last bad_before text bad
   pub prefix : IsPrefix front text
 
 abbrev pub status_of : Ending → ℕ
@@ -62,23 +139,24 @@ status_of TooMuch = 6
 
 -- a fact of an end at which all was read and written
 abbrev pub IsDone : Ending → (Bool → Type 0) → Type 0
-IsDone (Done refused) P = P refused
+IsDone (Done bad) P = P bad
 IsDone ReadFault P = Unit {0}
 IsDone WriteFault P = Unit {0}
 IsDone NoMemory P = Unit {0}
 IsDone TooMuch P = Unit {0}
 
+-- an end that a reply may come to
+abbrev pub IsEnd : Ending → Type 0
+IsEnd (Done bad) = Unit {0}
+IsEnd WriteFault = Unit {0}
+IsEnd NoMemory = Unit {0}
+IsEnd ReadFault = ⊥
+IsEnd TooMuch = ⊥
+
 -- a fact of an end in the middle of a reply or before it
 abbrev pub IsCut : Ending → Type 0 → Type 0
-IsCut (Done refused) P = Unit {0}
+IsCut (Done bad) P = Unit {0}
 IsCut ReadFault P = Unit {0}
 IsCut WriteFault P = P
 IsCut NoMemory P = P
 IsCut TooMuch P = Unit {0}
-
--- the reply to the number of a law has this text, where these are the laws of at most k operations
-pub record GivesNumbered (k : ℕ) (laws : List Equation) (p : Equation) (number : ℕ) (text : List ℕ) (refused : Bool) : Type 0 where
-  pub reply : Reply
-  pub replies : NumberedReply k laws p reply
-  pub text_is : text ≡ reply_text number reply
-  pub refused_is : refused ≡ is_refusal reply

@@ -1,31 +1,21 @@
 -- What a request is answered.
-use Rattle.std.specs.Prelude.{◌≡◌, ◌≢◌, ℕ, ◌<◌, ◌≤◌, List, ◌∷◌, [], ◌++◌, Bool, true, false, codes, decimal, None, Some}
+use Rattle.std.specs.Prelude.{◌≡◌, ◌≢◌, ℕ, ◌<◌, ◌≤◌, List, [], ◌∷◌, ◌++◌, codes, decimal, false, None, Some}
 use Rattle.std.specs.declared.option.Option.{Option}
 use Rattle.etp_theory.specs.Trees.{Equation, leaves, law_ops, law_dual}
-use Rattle.etp_laws.specs.Listing.{IsTheList}
 use Rattle.etp_laws.specs.LawLists.{entry_at, IsNumberOf, IsTrivial}
 use Rattle.etp_text.specs.Written.{written_law}
 use Rattle.etp_text.specs.Grammar.{SpellsLaw}
 use Rattle.etp_text.specs.Refusals.{RefusesLaw, side_limit}
 use Rattle.etp_text.specs.declared.refusal.TextRefusal.{TextRefusal}
-use Rattle.etp_text.specs.declared.refusal.TextRefusal.TheVariants.{Syntax, Variable, TooLarge, NoMemory}
-use Rattle.etp_session.specs.Requests.{Request, blank, long, order, law, number, dual, not_built, bad}
-
-pub data Reply : Type 0 where
-  silent : Reply
-  answered : List ℕ → Reply
-  refused : List ℕ → Reply
-
--- the lines that are written for the request of line n
-abbrev pub reply_text : ℕ → Reply → List ℕ
-reply_text n silent = []
-reply_text n (answered text) = text
-reply_text n (refused why) = codes "refused " ++ decimal n ++ codes ": " ++ why ++ 10 ∷ []
-
-abbrev pub is_refusal : Reply → Bool
-is_refusal silent = false
-is_refusal (answered text) = false
-is_refusal (refused why) = true
+use Rattle.etp_text.specs.declared.refusal.TextRefusal.TheVariants.{NoMemory}
+use Rattle.etp_io.specs.Texts.{LineText}
+use Rattle.etp_ledger.specs.Files.{File}
+use Rattle.etp_session.specs.Texts.{Reply, silent, answered, refused}
+use Rattle.etp_session.specs.RefusalTexts.{text_refusal}
+use Rattle.etp_session.specs.Requests.{Request, blank, long, order, law, number, dual, ask, file, withdraw, files, counts, not_built, bad, asked}
+use Rattle.etp_session.specs.States.{Opened, Opens, State, unopened, over, filing}
+use Rattle.etp_session.specs.LedgerReplies.{AskReply, CountsReply, files_text, WithdrawReply}
+use Rattle.etp_session.specs.Bodies.{BodyReply, FileReply}
 
 -- a law with its number before it, as a line
 abbrev pub law_line : ℕ → Equation → List ℕ
@@ -35,13 +25,6 @@ law_line n p = decimal n ++ codes " " ++ written_law p ++ 10 ∷ []
 abbrev pub law_reply : ℕ → Option Equation → Reply
 law_reply n None = refused (codes "unknown law " ++ decimal n)
 law_reply n (Some p) = answered (law_line n p)
-
--- why a text is refused
-abbrev pub text_refusal : TextRefusal → List ℕ
-text_refusal (Syntax at) = codes "syntax at " ++ decimal at
-text_refusal (Variable at) = codes "variable at " ++ decimal at
-text_refusal (TooLarge count) = codes "too large " ++ decimal count
-text_refusal NoMemory = []
 
 -- the reply to the number of a law, where these are the laws of at most k operations
 pub data NumberedReply (k : ℕ) (laws : List Equation) (p : Equation) (reply : Reply) : Type 0 where
@@ -59,27 +42,48 @@ abbrev pub DualReply : List Equation → ℕ → Option Equation → Reply → T
 DualReply laws n None reply = reply ≡ law_reply n None
 DualReply laws n (Some p) reply = (m : ℕ) × IsNumberOf laws (law_dual p) m × (reply ≡ law_reply m (entry_at laws m))
 
--- a request has this reply, where these are the laws of at most k operations
-abbrev pub Answers : ℕ → List Equation → Request → Reply → Type 0
-Answers k laws blank reply = reply ≡ silent
-Answers k laws long reply = reply ≡ refused (codes "long line")
-Answers k laws (order o) reply = reply ≡ refused (codes "bad line")
-Answers k laws (law n) reply = reply ≡ law_reply n (entry_at laws n)
-Answers k laws (number text) reply = NumberReply k laws text reply
-Answers k laws (dual n) reply = DualReply laws n (entry_at laws n) reply
-Answers k laws not_built reply = reply ≡ refused (codes "not built")
-Answers k laws bad reply = reply ≡ refused (codes "bad line")
+-- a request has this reply, and these files stand after it
+abbrev pub Answers : Opened → Request → Reply → List File → Type 0
+Answers o blank reply after = (reply ≡ silent) × (after ≡ o.files)
+Answers o long reply after = (reply ≡ refused (codes "long line")) × (after ≡ o.files)
+Answers o (order k) reply after = (reply ≡ refused (codes "bad line")) × (after ≡ o.files)
+Answers o (law n) reply after = (reply ≡ law_reply n (entry_at o.laws.equations n)) × (after ≡ o.files)
+Answers o (number text) reply after = NumberReply o.laws.order o.laws.equations text reply × (after ≡ o.files)
+Answers o (dual n) reply after = DualReply o.laws.equations n (entry_at o.laws.equations n) reply × (after ≡ o.files)
+Answers o (ask e f) reply after = AskReply o e f reply × (after ≡ o.files)
+Answers o (file word) reply after = ⊥
+Answers o (withdraw word) reply after = WithdrawReply o.files word reply after
+Answers o files reply after = (reply ≡ answered (files_text o.files)) × (after ≡ o.files)
+Answers o counts reply after = CountsReply o reply × (after ≡ o.files)
+Answers o not_built reply after = (reply ≡ refused (codes "not built")) × (after ≡ o.files)
+Answers o bad reply after = (reply ≡ refused (codes "bad line")) × (after ≡ o.files)
 
--- what stands between two lines: before the first line that isn't blank nothing,
--- and then the session's order and the laws of at most so many operations
-pub data State : Type 0 where
-  unopened : State
-  over : ℕ → List Equation → State
+-- the reply to line n once the laws stand: `file` opens a body, any other request is answered
+abbrev pub OpenReply : Opened → ℕ → Request → Reply → State → Type 0
+OpenReply o n (file word) reply after = (reply ≡ silent) × (after ≡ filing o (record { number = n; word = word; lines = [] }))
+OpenReply o n request reply after = (files : List File) × Answers o request reply files × (after ≡ over (record { laws = o.laws; files = files }))
 
--- A request has this reply and leaves this state. The first that isn't blank may be `order`;
--- it sets the order, which is 4 otherwise, and writes nothing.
-abbrev pub Replies : State → Request → Reply → State → Type 0
-Replies (over k laws) request reply after = Answers k laws request reply × (after ≡ over k laws)
-Replies unopened blank reply after = (reply ≡ silent) × (after ≡ unopened)
-Replies unopened (order k) reply after = (laws : List Equation) × IsTheList k laws × (reply ≡ silent) × (after ≡ over k laws)
-Replies unopened request reply after = (laws : List Equation) × IsTheList 4 laws × Answers 4 laws request reply × (after ≡ over 4 laws)
+-- The reply to line n where nothing stands yet. The first that isn't blank may be `order`; it sets the
+-- order, which is 4 otherwise, and writes nothing.
+abbrev pub FirstReply : ℕ → Request → Reply → State → Type 0
+FirstReply n blank reply after = (reply ≡ silent) × (after ≡ unopened)
+FirstReply n (order k) reply after = (o : Opened) × Opens k o × (reply ≡ silent) × (after ≡ over o)
+FirstReply n request reply after = (o : Opened) × Opens 4 o × OpenReply o n request reply after
+
+-- line n has this reply and leaves this state
+abbrev pub Replies : State → ℕ → LineText → Reply → State → Type 0
+Replies unopened n line reply after = FirstReply n (asked line) reply after
+Replies (over o) n line reply after = OpenReply o n (asked line) reply after
+Replies (filing o f) n line reply after = BodyReply o f line reply after
+
+-- the source ends here: a body that is being read isn't closed
+abbrev pub Closes : State → Reply → Type 0
+Closes unopened reply = reply ≡ silent
+Closes (over o) reply = reply ≡ silent
+Closes (filing o f) reply = (after : List File) × FileReply o f false reply after
+
+-- the number of the line that is answered: that of the file where a body is read
+abbrev pub answered_line : State → ℕ → ℕ
+answered_line unopened n = n
+answered_line (over o) n = n
+answered_line (filing o f) n = f.number

@@ -1,11 +1,10 @@
 -- What a line asks.
-use Rattle.std.specs.Prelude.{ℕ, List, [], ◌∷◌, Bool, false, codes, nat_eq, if◌then◌else◌, None, Some}
+use Rattle.std.specs.Prelude.{ℕ, List, [], ◌∷◌, codes, nat_eq, if◌then◌else◌, None, Some}
 use Rattle.std.specs.declared.option.Option.{Option}
 use Rattle.std.specs.List.{list_any}
-use Rattle.std.specs.Cmp.Lexicographic.{pointwise}
 use Rattle.etp_io.specs.Texts.{LineText, whole, too_long}
-use Rattle.etp_session.specs.Words.{words_of, behind_first}
-use Rattle.etp_session.specs.Numbers.{number_of}
+use Rattle.etp_items.specs.Words.{words_of, behind_first, is_word, is_comment}
+use Rattle.etp_items.specs.Numbers.{number_of}
 
 pub data Request : Type 0 where
   -- a blank line or a comment, which asks nothing
@@ -17,21 +16,27 @@ pub data Request : Type 0 where
   law : ℕ → Request
   number : List ℕ → Request
   dual : ℕ → Request
+  -- the answer for a pair of laws
+  ask : ℕ → ℕ → Request
+  -- a file, whose body lines follow; the one word that is to be its name, or none
+  file : Option (List ℕ) → Request
+  -- the word that is to be the name of the file that is taken out
+  withdraw : List ℕ → Request
+  files : Request
+  counts : Request
   not_built : Request
   bad : Request
 
 -- the words of commands that aren't built yet
 abbrev pub unbuilt : List (List ℕ)
-unbuilt = codes "file" ∷ codes "load" ∷ codes "withdraw" ∷ codes "ask" ∷ codes "why" ∷ codes "row" ∷ codes "class"
-    ∷ codes "classes" ∷ codes "counts" ∷ codes "csv" ∷ codes "files" ∷ codes "ledger" ∷ codes "profile" ∷ []
+unbuilt = codes "load" ∷ codes "why" ∷ codes "row" ∷ codes "class" ∷ codes "classes" ∷ codes "csv" ∷ codes "ledger"
+    ∷ codes "profile" ∷ []
 
-abbrev pub is_word : List ℕ → List ℕ → Bool
-is_word word other = pointwise nat_eq word other
-
--- the first word begins with `#`
-abbrev pub is_comment : List ℕ → Bool
-is_comment [] = false
-is_comment (b ∷ bytes) = nat_eq b 35
+-- the only word
+abbrev pub only_word : List (List ℕ) → Option (List ℕ)
+only_word (word ∷ []) = Some word
+only_word [] = None
+only_word (word ∷ more ∷ words) = None
 
 -- the number that is the only word
 abbrev pub only_number : List (List ℕ) → Option ℕ
@@ -59,6 +64,38 @@ abbrev pub number_request : List ℕ → Request
 number_request [] = bad
 number_request (b ∷ text) = number (b ∷ text)
 
+-- `ask` and two numbers
+abbrev pub pair_request : Option ℕ → Option ℕ → Request
+pair_request (Some e) (Some f) = ask e f
+pair_request (Some e) None = bad
+pair_request None f = bad
+
+abbrev pub ask_request : List (List ℕ) → Request
+ask_request [] = bad
+ask_request (first ∷ []) = bad
+ask_request (first ∷ second ∷ []) = pair_request (number_of first) (number_of second)
+ask_request (first ∷ second ∷ third ∷ words) = bad
+
+-- `withdraw` and a word
+abbrev pub withdraw_request : Option (List ℕ) → Request
+withdraw_request None = bad
+withdraw_request (Some word) = withdraw word
+
+-- a command of one word
+abbrev pub lone_request : Request → List (List ℕ) → Request
+lone_request request [] = request
+lone_request request (word ∷ words) = bad
+
+-- what is asked of the files and of the answers
+abbrev pub ledger_request : List ℕ → List (List ℕ) → Request
+ledger_request word words =
+    if is_word word (codes "ask") then ask_request words else
+    (if is_word word (codes "file") then file (only_word words) else
+    (if is_word word (codes "withdraw") then withdraw_request (only_word words) else
+    (if is_word word (codes "files") then lone_request files words else
+    (if is_word word (codes "counts") then lone_request counts words else
+    (if list_any (is_word word) unbuilt then not_built else bad)))))
+
 abbrev pub request_of_words : List ℕ → List (List ℕ) → Request
 request_of_words line [] = blank
 request_of_words line (word ∷ words) =
@@ -66,8 +103,7 @@ request_of_words line (word ∷ words) =
     (if is_word word (codes "law") then law_request (only_number words) else
     (if is_word word (codes "number") then number_request (behind_first line) else
     (if is_word word (codes "dual") then dual_request (only_number words) else
-    (if is_word word (codes "order") then order_request (only_number words) else
-    (if list_any (is_word word) unbuilt then not_built else bad)))))
+    (if is_word word (codes "order") then order_request (only_number words) else ledger_request word words))))
 
 -- what the line asks
 abbrev pub request_of : List ℕ → Request

@@ -2,8 +2,9 @@
 use Rattle.std.specs.Prelude.{◌≡◌, ℕ, ◌+◌, List, [], ◌∷◌, ◌++◌, Bool, false, ◌||◌}
 use Rattle.etp_io.specs.Texts.{LineText, lines_of}
 use Rattle.etp_io.specs.Stream.{IsPrefix}
-use Rattle.etp_session.specs.Requests.{asked}
-use Rattle.etp_session.specs.Replies.{State, unopened, Reply, reply_text, is_refusal, Replies}
+use Rattle.etp_session.specs.Texts.{Reply, reply_text, is_refusal}
+use Rattle.etp_session.specs.States.{State, unopened}
+use Rattle.etp_session.specs.Replies.{Replies, Closes, answered_line}
 
 -- a line and its number, counted from 1
 pub record Item : Type 0 where
@@ -22,16 +23,28 @@ items_of bytes = items_from 1 (lines_of bytes)
 abbrev pub Session : State → List Item → List ℕ → Bool → State → Type 0
 Session first [] text refused last = (text ≡ []) × (refused ≡ false) × (last ≡ first)
 Session first (item ∷ items) text refused last = (reply : Reply) × (middle : State) × (rest : List ℕ) × (also : Bool)
-    × Replies first (asked item.line) reply middle × Session middle items rest also last
-    × (text ≡ reply_text item.number reply ++ rest) × (refused ≡ (is_refusal reply || also))
+    × Replies first item.number item.line reply middle × Session middle items rest also last
+    × (text ≡ reply_text (answered_line first item.number) reply ++ rest) × (refused ≡ (is_refusal reply || also))
 
--- the whole text of a session over these bytes, with a refusal line or without
-pub record IsSession (bytes text : List ℕ) (refused : Bool) : Type 0 where
+-- the text of the commands whose lines stand whole in these bytes; a file whose `end` doesn't stand
+-- in them isn't answered
+pub record AnswersLines (bytes text : List ℕ) (refused : Bool) : Type 0 where
   pub last : State
   pub session : Session unopened (items_of bytes) text refused last
 
+-- the whole text of a session over these bytes, with a refusal line or without
+pub record IsSession (bytes text : List ℕ) (refused : Bool) : Type 0 where
+  pub front : List ℕ
+  pub some : Bool
+  pub last : State
+  pub session : Session unopened (items_of bytes) front some last
+  pub reply : Reply
+  pub closes : Closes last reply
+  pub text_is : text ≡ front ++ reply_text (answered_line last 0) reply
+  pub refused_is : refused ≡ (some || is_refusal reply)
+
 -- a prefix of the text of the first lines
-pub record Begins (bytes written : List ℕ) : Type 0 where
+pub record BeginsInLines (bytes written : List ℕ) : Type 0 where
   pub done : List Item
   pub left : List Item
   pub items : items_of bytes ≡ done ++ left
@@ -40,3 +53,15 @@ pub record Begins (bytes written : List ℕ) : Type 0 where
   pub last : State
   pub session : Session unopened done text refused last
   pub prefix : IsPrefix written text
+
+-- a prefix of the whole text
+pub record BeginsText (bytes written : List ℕ) : Type 0 where
+  pub text : List ℕ
+  pub refused : Bool
+  pub session : IsSession bytes text refused
+  pub prefix : IsPrefix written text
+
+-- a prefix of the text, written before all lines were read or after
+pub data Begins (bytes written : List ℕ) : Type 0 where
+  in_lines : BeginsInLines bytes written → Begins bytes written
+  at_end : BeginsText bytes written → Begins bytes written

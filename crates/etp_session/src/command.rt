@@ -1,9 +1,12 @@
 ghost use Rattle.std.specs.Prelude.{ℕ, ◌≡◌, ◌≤◌, ◌<◌, ◌++◌, ◌∷◌, ◌⊎◌, [], take, drop, length, IfSome, MatchOption, None, Some, not, true};
 ghost use Rattle.std.specs.List.{list_any};
-ghost use Rattle.etp_session.specs.Words.{words_of, is_blank, goes_on, skip_blanks, skip_word, behind_first};
-ghost use Rattle.etp_session.specs.Numbers.{number_of, is_digit};
-ghost use Rattle.etp_session.specs.Requests.{request_of, only_number, law_request, dual_request, order_request, number_request, unbuilt, is_word};
-ghost use Rattle.etp_session.specs.Commands.{request_from, operations_of, IsWithin};
+ghost use Rattle.etp_items.specs.Words.{words_of, skip_blanks, is_word};
+ghost use Rattle.etp_session.specs.Requests.{Request, request_of, only_number, only_word, law_request, dual_request, order_request, number_request, ask_request, pair_request, withdraw_request, lone_request, unbuilt};
+ghost use Rattle.etp_session.specs.Requests.{ledger_request};
+ghost use Rattle.etp_session.specs.Commands.{request_from, pair_from, operations_of, IsWithin};
+ghost use Rattle.std.specs.Option.{option_copied};
+
+use etp_items::{is, next_word, number_word, skip_blanks};
 
 /// The order of a session: the most operations that its laws have, 4 or 5.
 #[derive(Clone, Copy, Debug, PartialEq, Eq)]
@@ -26,7 +29,8 @@ impl ListOrder {
 }
 
 /// What a line asks. A blank line and a comment ask nothing; a line of more than 4096 bytes is
-/// never looked at; the text of `number` is a part of the line.
+/// never looked at. The text of `number` is a part of the line, and so is the word that is to be the
+/// name of a file; a line with `file` opens a body whatever follows.
 #[derive(Clone, Copy)]
 pub enum Command<'a> {
     Blank,
@@ -35,75 +39,24 @@ pub enum Command<'a> {
     Law(u32),
     Number(&'a [u8]),
     Dual(u32),
+    Ask(u32, u32),
+    File(Option<&'a [u8]>),
+    Withdraw(&'a [u8]),
+    Files,
+    Counts,
     NotBuilt,
     Bad,
 }
 
-fn is_blank(byte: u8) -> bool
-    ensures { result ≡ is_blank byte }
+/// The only word of a line.
+pub(crate) fn only_word(rest: &[u8]) -> Option<&[u8]>
+    ensures { option_copied result ≡ only_word (words_of rest.now) }
 {
-    byte == b' ' || byte == b'\t'
-}
-
-// Reads a number: one to ten decimal digits with a value below 2^32.
-fn read_number(word: &[u8]) -> Option<u32>
-    ensures { result ≡ number_of word.now }
-{
-    if word.is_empty() || word.len() > 10 {
+    let (word, rest) = next_word(rest)?;
+    if next_word(rest).is_some() {
         return None;
     }
-    let mut value = 0u64;
-    for byte in word {
-        if !byte.is_ascii_digit() {
-            return None;
-        }
-        value = value * 10 + u64::from(*byte - b'0');
-    }
-    u32::try_from(value).ok()
-}
-
-fn skip_blanks(line: &[u8]) -> &[u8]
-    ensures value { result.now ≡ skip_blanks line.now }
-    ensures within { length result.now ≤ length line.now }
-    ensures words { words_of result.now ≡ words_of line.now }
-    ensures begins { 0 < length result.now → goes_on result.now ≡ true }
-{
-    for (i, byte) in line.iter().enumerate() {
-        if !is_blank(*byte) {
-            return &line[i..];
-        }
-    }
-    &[]
-}
-
-// How long the word at the front is.
-fn word_end(line: &[u8]) -> usize
-    requires some { 0 < length line.now }
-    requires begins { goes_on line.now ≡ true }
-    ensures bound { result ≤ length line.now }
-    ensures words { words_of line.now ≡ take result line.now ∷ words_of (drop result line.now) }
-    ensures rest { drop result line.now ≡ skip_word line.now }
-{
-    for (i, byte) in line.iter().enumerate() {
-        if is_blank(*byte) {
-            return i;
-        }
-    }
-    line.len()
-}
-
-// The first word and what follows it.
-fn next_word(line: &[u8]) -> Option<(&[u8], &[u8])>
-    ensures words { MatchOption result (words_of line.now ≡ []) (λ p. words_of line.now ≡ p.0.now ∷ words_of p.1.now) }
-    ensures rest { IfSome result (λ p. p.1.now ≡ skip_word (skip_blanks line.now)) }
-    ensures within { IfSome result (λ p. length p.1.now ≤ length line.now) }
-{
-    let line = skip_blanks(line);
-    if line.is_empty() {
-        return None;
-    }
-    let end = word_end(line);
-    Some((&line[..end], &line[end..]))
+    Some(word)
 }
 
 // The number that is the only word.
@@ -114,7 +67,7 @@ fn only_number(rest: &[u8]) -> Option<u32>
     if next_word(rest).is_some() {
         return None;
     }
-    read_number(number)
+    number_word(number)
 }
 
 fn law_command(number: Option<u32>) -> Command<'static>
@@ -160,27 +113,60 @@ fn number_command(rest: &[u8]) -> Command<'_>
     }
 }
 
-/// Whether the word is this one.
-pub fn is(word: &[u8], name: &str) -> bool
-    ensures { result ≡ is_word word.now name.now }
+// A pair of numbers that are the only words.
+fn only_pair(rest: &[u8]) -> Option<(u32, u32)>
+    ensures { pair_from result ≡ ask_request (words_of rest.now) }
 {
-    word == name.as_bytes()
+    let (first, rest) = next_word(rest)?;
+    let (second, rest) = next_word(rest)?;
+    if next_word(rest).is_some() {
+        return None;
+    }
+    Some((number_word(first)?, number_word(second)?))
+}
+
+fn ask_command(pair: Option<(u32, u32)>) -> Command<'static>
+    ensures request { request_from result ≡ pair_from pair }
+    ensures within { (most : ℕ) → IsWithin most result }
+{
+    match pair {
+        Some((e, f)) => Command::Ask(e, f),
+        None => Command::Bad,
+    }
+}
+
+fn withdraw_command(word: Option<&[u8]>) -> Command<'_>
+    ensures request { request_from result ≡ withdraw_request (option_copied word.entry) }
+    ensures within { (most : ℕ) → IsWithin most result }
+{
+    match word {
+        Some(word) => Command::Withdraw(word),
+        None => Command::Bad,
+    }
+}
+
+// A command that is a word alone.
+fn lone_command<'a>(command: Command<'a>, rest: &[u8]) -> Command<'a>
+    requires { (most : ℕ) → IsWithin most command }
+    ensures request { request_from result ≡ lone_request (request_from command.entry) (words_of rest.now) }
+    ensures within { (most : ℕ) → IsWithin most result }
+{
+    if next_word(rest).is_some() {
+        Command::Bad
+    } else {
+        command
+    }
 }
 
 fn is_unbuilt(word: &[u8]) -> bool
     ensures { result ≡ list_any (is_word word.now) unbuilt }
 {
-    is(word, "file")
-        || is(word, "load")
-        || is(word, "withdraw")
-        || is(word, "ask")
+    is(word, "load")
         || is(word, "why")
         || is(word, "row")
         || is(word, "class")
         || is(word, "classes")
-        || is(word, "counts")
         || is(word, "csv")
-        || is(word, "files")
         || is(word, "ledger")
         || is(word, "profile")
 }
@@ -207,6 +193,29 @@ pub fn read_command(line: &[u8]) -> Command<'_>
     }
     if is(word, "order") {
         return order_command(only_number(rest));
+    }
+    ledger_command(word, rest)
+}
+
+// Reads what a line asks of the files and of the answers, by its first word and what follows it.
+fn ledger_command<'a>(word: &[u8], rest: &'a [u8]) -> Command<'a>
+    ensures request { request_from result ≡ ledger_request word.now (words_of rest.now) }
+    ensures within { (most : ℕ) → IsWithin most result }
+{
+    if is(word, "ask") {
+        return ask_command(only_pair(rest));
+    }
+    if is(word, "file") {
+        return Command::File(only_word(rest));
+    }
+    if is(word, "withdraw") {
+        return withdraw_command(only_word(rest));
+    }
+    if is(word, "files") {
+        return lone_command(Command::Files, rest);
+    }
+    if is(word, "counts") {
+        return lone_command(Command::Counts, rest);
     }
     if is_unbuilt(word) {
         Command::NotBuilt

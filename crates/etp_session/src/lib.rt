@@ -2,7 +2,11 @@
 #![tactic(auto)]
 
 mod command;
+mod desk;
+mod filing;
 mod listing;
+mod pairs;
+mod refusal_text;
 mod reply;
 mod serving;
 mod top;

@@ -1,23 +1,30 @@
-ghost use Rattle.std.specs.Prelude.{◌≡◌, ◌≤◌, ◌++◌, ◌∷◌, [], IfOk, OnOk, true, false, codes, decimal, length};
+ghost use Rattle.std.specs.Prelude.{◌≡◌, ◌≤◌, ◌++◌, ◌∷◌, ◌||◌, [], Some, IfOk, IfSome, OnOk, Bool, true, false, codes, decimal, length, None, List, ℕ};
+ghost use Rattle.std.specs.Option.{option_copied};
 ghost use Rattle.etp_theory.specs.Trees.{leaves};
 ghost use Rattle.etp_term.specs.Terms.{tree_of};
 ghost use Rattle.etp_term.specs.Laws.{equation_of};
 ghost use Rattle.etp_laws.specs.LawLists.{entry_at};
 ghost use Rattle.etp_text.specs.Refusals.{side_limit};
-ghost use Rattle.etp_session.specs.Requests.{number, dual};
-ghost use Rattle.etp_session.specs.Commands.{request_from, IsWithin};
-ghost use Rattle.etp_session.specs.Replies.{reply_text, law_line, law_reply, is_refusal, refused, NumberedReply};
-ghost use Rattle.etp_session.specs.Given.{GivesReply, GivesAnswer, GivesNumbered};
-ghost use Rattle.etp_session.specs.Opened.{state_of};
+ghost use Rattle.etp_session.specs.Requests.{asked};
+ghost use Rattle.etp_session.specs.Commands.{request_from, IsWithin, IsNoFile};
+ghost use Rattle.etp_session.specs.Texts.{reply_text, is_refusal, refused};
+ghost use Rattle.etp_session.specs.Replies.{law_line, law_reply, NumberedReply, NumberReply, DualReply, Answers, FirstReply};
+ghost use Rattle.etp_session.specs.States.{State, unopened};
+ghost use Rattle.etp_session.specs.Given.{given_text, Gives, GivesThen, GivesOpen, GivesOpened, GivesFirst, GivesReply, GivesClose};
+ghost use Rattle.etp_session.specs.Desks.{opened_of, Agrees, IsStage, IsDesk, IsSound};
+ghost use Rattle.etp_session.specs.Filings.{Leaves};
 
-use crate::command::Command;
+use crate::command::{Command, ListOrder, read_command};
+use crate::desk::{Desk, Filing, Opened};
+use crate::filing::{answer_file, closes_body, open_file, take_line};
+use crate::pairs::{answer_counts, answer_files, answer_pair, answer_withdrawal};
 use etp_laws::{Laws, Numbered};
 use etp_term::Law;
 use etp_text::{Text, TextRefusal, read_law};
 use std::alloc::{AllocError, Global};
 
-// Writes a refusal line.
-fn refuse(text: &mut Text, line: u64, why: &[u8]) -> Result<bool, AllocError>
+/// Writes a refusal line.
+pub(crate) fn refuse(text: &mut Text, line: u64, why: &[u8]) -> Result<bool, AllocError>
     requires { text.old ≡ [] }
     ensures { IfOk result (λ refusal. (text.new ≡ reply_text line (refused why.now)) × (refusal ≡ true)) }
 {
@@ -29,8 +36,13 @@ fn refuse(text: &mut Text, line: u64, why: &[u8]) -> Result<bool, AllocError>
     Ok(true)
 }
 
-// Writes a refusal line that ends with a number.
-fn refuse_with(text: &mut Text, line: u64, why: &[u8], n: u32) -> Result<bool, AllocError>
+/// Writes a refusal line that ends with a number.
+pub(crate) fn refuse_with(
+    text: &mut Text,
+    line: u64,
+    why: &[u8],
+    n: u32,
+) -> Result<bool, AllocError>
     requires { text.old ≡ [] }
     ensures { IfOk result (λ refusal. (text.new ≡ reply_text line (refused (why.now ++ decimal n))) × (refusal ≡ true)) }
 {
@@ -71,7 +83,7 @@ fn answer_law(text: &mut Text, laws: &Laws, n: u32, line: u64) -> Result<bool, A
 // Writes the law that is the same as the dual of law n.
 fn answer_dual(text: &mut Text, laws: &Laws, n: u32, line: u64) -> Result<bool, AllocError>
     requires { text.old ≡ [] }
-    ensures { IfOk result (λ refusal. GivesAnswer laws.now.order laws.now.equations (dual n) line text.new refusal) }
+    ensures { IfOk result (λ refusal. Gives line text.new refusal (DualReply laws.now.equations n (entry_at laws.now.equations n))) }
 {
     match laws.dual(n) {
         Some(m) => answer_law(text, laws, m, line),
@@ -84,7 +96,7 @@ fn answer_numbered(text: &mut Text, laws: &Laws, law: &Law, line: u64) -> Result
     requires empty { text.old ≡ [] }
     requires left { leaves (tree_of law.now.left) ≤ side_limit }
     requires right { leaves (tree_of law.now.right) ≤ side_limit }
-    ensures { IfOk result (λ refusal. GivesNumbered laws.now.order laws.now.equations (equation_of law.now) line text.new refusal) }
+    ensures { IfOk result (λ refusal. Gives line text.new refusal (NumberedReply laws.now.order laws.now.equations (equation_of law.now))) }
 {
     match laws.number(law) {
         Numbered::Is(n) => answer_law(text, laws, n, line),
@@ -103,7 +115,7 @@ fn answer_number(
 ) -> Result<bool, AllocError>
     requires empty { text.old ≡ [] }
     requires short { length spelling.now ≤ 4096 }
-    ensures { IfOk result (λ refusal. GivesAnswer laws.now.order laws.now.equations (number spelling.now) line text.new refusal) }
+    ensures { IfOk result (λ refusal. Gives line text.new refusal (NumberReply laws.now.order laws.now.equations spelling.now)) }
 {
     match read_law(alloc, spelling) {
         Ok(law) => answer_numbered(text, laws, &law, line),
@@ -114,18 +126,21 @@ fn answer_number(
     }
 }
 
-// Writes the reply to a command once the laws of the session stand, and answers whether it is a refusal.
+// Writes the reply to a command once the laws stand, and answers whether it is a refusal.
 fn answer(
     alloc: Global,
     text: &mut Text,
-    laws: &Laws,
+    opened: &mut Opened,
     command: Command<'_>,
     line: u64,
 ) -> Result<bool, AllocError>
     requires empty { text.old ≡ [] }
+    requires agrees { Agrees opened.old }
     requires short { IsWithin 4096 command }
-    ensures { IfOk result (λ refusal. GivesAnswer laws.now.order laws.now.equations (request_from command.entry) line text.new refusal) }
+    requires no_file { IsNoFile command }
+    ensures { IfOk result (λ refusal. GivesThen line text.new refusal (Answers (opened_of opened.old) (request_from command.entry)) (Leaves opened.old opened.new)) }
 {
+    let laws = &opened.laws;
     match command {
         Command::Blank => Ok(false),
         Command::Long => refuse(text, line, b"long line"),
@@ -133,38 +148,230 @@ fn answer(
         Command::Law(n) => answer_law(text, laws, n, line),
         Command::Number(spelling) => answer_number(alloc, text, laws, spelling, line),
         Command::Dual(n) => answer_dual(text, laws, n, line),
+        Command::Ask(e, f) => answer_pair(text, opened, e, f, line),
+        Command::File(_) => unreachable!(),
+        Command::Withdraw(word) => answer_withdrawal(alloc, text, opened, word, line),
+        Command::Files => answer_files(text, &opened.ledger),
+        Command::Counts => answer_counts(text, opened, line),
         Command::NotBuilt => refuse(text, line, b"not built"),
         Command::Bad => refuse(text, line, b"bad line"),
     }
 }
 
-/// Writes the reply to a command, and answers whether it is a refusal. The first command that isn't
-/// blank opens the list of laws.
-pub fn respond(
+/// What a command leaves: a file whose body is to be read, and whether the command was refused.
+#[derive(Drop)]
+struct Done {
+    filing: Option<Filing>,
+    refused: bool,
+}
+
+// Obeys a command once the laws stand.
+fn obey(
     alloc: Global,
     text: &mut Text,
-    opened: &mut Option<Laws>,
+    opened: &mut Opened,
     command: Command<'_>,
     line: u64,
+) -> Result<Done, AllocError>
+    requires empty { text.old ≡ [] }
+    requires agrees { Agrees opened.old }
+    requires short { IsWithin 4096 command }
+    ensures gives { IfOk result (λ done. GivesOpen (opened_of opened.old) line (request_from command.entry) text.new done.refused (IsStage (Some opened.new) done.filing)) }
+    ensures agrees { OnOk result (Agrees opened.new) }
+{
+    if let Command::File(word) = command {
+        let filing = open_file(alloc, opened, word, line)?;
+        return Ok(Done {
+            filing: Some(filing),
+            refused: false,
+        });
+    }
+    let refused = answer(alloc, text, opened, command, line)?;
+    Ok(Done {
+        filing: None,
+        refused,
+    })
+}
+
+/// What the first command leaves: the laws with the files, where it isn't blank, and as any other.
+#[derive(Drop)]
+struct First {
+    opened: Option<Opened>,
+    filing: Option<Filing>,
+    refused: bool,
+}
+
+// Obeys a command where nothing stands yet. The first that isn't blank opens the list of laws.
+fn obey_first(
+    alloc: Global,
+    text: &mut Text,
+    command: Command<'_>,
+    line: u64,
+) -> Result<First, AllocError>
+    requires empty { text.old ≡ [] }
+    requires short { IsWithin 4096 command }
+    ensures gives { IfOk result (λ first. GivesFirst line (request_from command.entry) text.new first.refused (IsStage first.opened first.filing)) }
+    ensures agrees { IfOk result (λ first. IfSome first.opened Agrees) }
+{
+    match command {
+        Command::Blank => Ok(First {
+            opened: None,
+            filing: None,
+            refused: false,
+        }),
+        Command::Order(order) => Ok(First {
+            opened: Some(Opened::start(alloc, order)?),
+            filing: None,
+            refused: false,
+        }),
+        _ => open_and_obey(alloc, text, command, line),
+    }
+}
+
+// Opens the list of order 4 and obeys a command.
+fn open_and_obey(
+    alloc: Global,
+    text: &mut Text,
+    command: Command<'_>,
+    line: u64,
+) -> Result<First, AllocError>
+    requires empty { text.old ≡ [] }
+    requires short { IsWithin 4096 command }
+    ensures gives { IfOk result (λ first. GivesOpened line (request_from command.entry) text.new first.refused (IsStage first.opened first.filing)) }
+    ensures agrees { IfOk result (λ first. IfSome first.opened Agrees) }
+{
+    let mut opened = Opened::start(alloc, ListOrder::Four)?;
+    let Done { filing, refused } = obey(alloc, text, &mut opened, command, line)?;
+    Ok(First {
+        opened: Some(opened),
+        filing,
+        refused,
+    })
+}
+
+// What the line asks; a line that is too long is never looked at.
+fn command_of(line: Option<&[u8]>) -> Command<'_>
+    requires { IfSome line (λ line. length line.now ≤ 4096) }
+    ensures request { request_from result ≡ asked (given_text line.entry) }
+    ensures short { IsWithin 4096 result }
+{
+    match line {
+        Some(line) => read_command(line),
+        None => Command::Long,
+    }
+}
+
+// Writes the reply to a line where no body is read.
+fn respond_to_command(
+    alloc: Global,
+    text: &mut Text,
+    desk: &mut Desk,
+    line: Option<&[u8]>,
+    number: u64,
+) -> Result<bool, AllocError>
+    requires empty { text.old ≡ [] }
+    requires agrees { IfSome desk.old.opened Agrees }
+    requires no_body { desk.old.filing ≡ None }
+    requires short { IfSome line (λ line. length line.now ≤ 4096) }
+    ensures gives { IfOk result (λ refusal. (state : State) → IsDesk desk.old state → GivesReply state number (given_text line.entry) text.new refusal (IsDesk desk.new)) }
+    ensures agrees { OnOk result (IfSome desk.new.opened Agrees) }
+{
+    let command = command_of(line);
+    match &mut desk.opened {
+        Some(opened) => {
+            let Done { filing, refused } = obey(alloc, text, opened, command, number)?;
+            desk.filing = filing;
+            Ok(refused)
+        }
+        None => respond_first(alloc, text, desk, command, number),
+    }
+}
+
+// Writes the reply to a command where nothing stands yet.
+fn respond_first(
+    alloc: Global,
+    text: &mut Text,
+    desk: &mut Desk,
+    command: Command<'_>,
+    number: u64,
 ) -> Result<bool, AllocError>
     requires empty { text.old ≡ [] }
     requires short { IsWithin 4096 command }
-    ensures { IfOk result (λ refusal. GivesReply (state_of opened.old) (request_from command.entry) line text.new refusal (state_of opened.new)) }
+    ensures gives { IfOk result (λ refusal. GivesFirst number (request_from command.entry) text.new refusal (IsDesk desk.new)) }
+    ensures agrees { OnOk result (IfSome desk.new.opened Agrees) }
 {
-    if let Some(laws) = opened {
-        return answer(alloc, text, laws, command, line);
+    let First {
+        opened,
+        filing,
+        refused,
+    } = obey_first(alloc, text, command, number)?;
+    *desk = Desk { opened, filing };
+    Ok(refused)
+}
+
+// Writes the reply to a line of a file's body.
+fn respond_in_body(
+    alloc: Global,
+    text: &mut Text,
+    desk: &mut Desk,
+    filing: Filing,
+    line: Option<&[u8]>,
+    number: u64,
+) -> Result<bool, AllocError>
+    requires empty { text.old ≡ [] }
+    requires agrees { IfSome desk.old.opened Agrees }
+    requires stands { (state : State) × IsStage desk.old.opened (Some filing) state }
+    requires taken { desk.old.filing ≡ None }
+    requires short { IfSome line (λ line. length line.now ≤ 4096) }
+    ensures gives { IfOk result (λ refusal. (state : State) → IsStage desk.old.opened (Some filing) state → GivesReply state number (given_text line.entry) text.new refusal (IsDesk desk.new)) }
+    ensures agrees { OnOk result (IfSome desk.new.opened Agrees) }
+{
+    let Some(opened) = &mut desk.opened else {
+        return Ok(false);
+    };
+    if closes_body(line) {
+        return answer_file(alloc, text, opened, filing, true);
     }
-    match command {
-        Command::Blank => Ok(false),
-        Command::Order(order) => {
-            *opened = Some(Laws::build_to(alloc, order.operations())?);
-            Ok(false)
-        }
-        _ => {
-            let laws = Laws::build(alloc)?;
-            let refusal = answer(alloc, text, &laws, command, line)?;
-            *opened = Some(laws);
-            Ok(refusal)
-        }
+    desk.filing = Some(take_line(filing, line)?);
+    Ok(false)
+}
+
+/// Writes the reply to a line, which is None where it is too long, and answers whether it is a refusal.
+pub(crate) fn respond(
+    alloc: Global,
+    text: &mut Text,
+    desk: &mut Desk,
+    line: Option<&[u8]>,
+    number: u64,
+) -> Result<bool, AllocError>
+    requires empty { text.old ≡ [] }
+    requires sound { IsSound desk.old }
+    requires short { IfSome line (λ line. length line.now ≤ 4096) }
+    ensures gives { IfOk result (λ refusal. (state : State) → IsDesk desk.old state → GivesReply state number (given_text line.entry) text.new refusal (IsDesk desk.new)) }
+    ensures agrees { OnOk result (IfSome desk.new.opened Agrees) }
+{
+    match desk.filing.take() {
+        Some(filing) => respond_in_body(alloc, text, desk, filing, line, number),
+        None => respond_to_command(alloc, text, desk, line, number),
+    }
+}
+
+/// Writes the reply to a file whose body isn't closed where the source ends, and answers whether
+/// there was one.
+pub(crate) fn respond_at_end(
+    alloc: Global,
+    text: &mut Text,
+    desk: &mut Desk,
+) -> Result<bool, AllocError>
+    requires empty { text.old ≡ [] }
+    requires sound { IsSound desk.old }
+    ensures { IfOk result (λ refusal. (state : State) → IsDesk desk.old state → (bad : Bool) → GivesClose state bad text.new (bad || refusal)) }
+{
+    let Some(filing) = desk.filing.take() else {
+        return Ok(false);
+    };
+    match &mut desk.opened {
+        Some(opened) => answer_file(alloc, text, opened, filing, false),
+        None => Ok(false),
     }
 }

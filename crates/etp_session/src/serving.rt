@@ -1,15 +1,13 @@
-ghost use Rattle.std.specs.Prelude.{◌≡◌, ◌++◌, [], ◌+◌, ◌-◌, ◌≤◌, ℕ, length, IfOk, IfErr, IsErrOf, true, false, ◌⊎◌, ◌||◌};
+ghost use Rattle.std.specs.Prelude.{◌≡◌, ◌↔◌, IsTrue, ◌++◌, [], ◌+◌, ◌-◌, ◌≤◌, ℕ, length, IfOk, IfErr, IfSome, OnOk, IsErrOf, true, false, ◌⊎◌, ◌||◌};
 ghost use Rattle.etp_io.specs.Causes.{Rose};
-ghost use Rattle.etp_session.specs.Requests.{asked};
-ghost use Rattle.etp_session.specs.Commands.{request_from, IsWithin};
-ghost use Rattle.etp_session.specs.Given.{line_text, GivesReply, WritesReply, WritesNothing, WritesSome, IsDone, IsCut, status_of};
-ghost use Rattle.etp_session.specs.Opened.{state_of};
+ghost use Rattle.etp_session.specs.States.{State};
+ghost use Rattle.etp_session.specs.Desks.{Agrees, IsDesk, IsSound};
+ghost use Rattle.etp_session.specs.Given.{line_text, given_text, WritesReply, WritesNothing, WritesSome, WritesClose, WritesSomeOfClose, IsDone, IsCut, IsEnd, status_of};
 ghost use Rattle.etp_session.specs.Ends.{EndsWell, WritesPrefix, WritesWholeLines, Takes, TakesWithin, StopsAtFault};
 
-use crate::command::{Command, read_command};
-use crate::reply::respond;
+use crate::desk::Desk;
+use crate::reply::{respond, respond_at_end};
 use etp_io::{InFault, Lines, Next, Shelf, Sink, Source, write_all};
-use etp_laws::Laws;
 use etp_text::Text;
 use std::alloc::Global;
 
@@ -36,44 +34,81 @@ fn status(ending: Ending) -> u8
     }
 }
 
-// What the line asks that was read.
-fn command_read(next: Next, lines: &Lines) -> Command<'_>
-    requires more { next ≡ Next.End → ⊥ }
-    requires short { length lines.now.line ≤ 4096 }
-    ensures request { request_from result ≡ asked (line_text next lines.now.line) }
-    ensures short { IsWithin 4096 result }
+fn is_end(next: Next) -> bool
+    ensures { IsTrue result ↔ (next ≡ Next.End) }
 {
     match next {
-        Next::Line => read_command(lines.line()),
-        Next::Long => Command::Long,
+        Next::End => true,
+        _ => false,
+    }
+}
+
+// The line that was read, or None for one that is too long.
+fn line_read(next: Next, lines: &Lines) -> Option<&[u8]>
+    requires more { next ≡ Next.End → ⊥ }
+    requires short { length lines.now.line ≤ 4096 }
+    ensures text { given_text result ≡ line_text next lines.now.line }
+    ensures short { IfSome result (λ line. length line.now ≤ 4096) }
+{
+    match next {
+        Next::Line => Some(lines.line()),
+        Next::Long => None,
         Next::End => unreachable!(),
     }
 }
 
-// Answers a command, and says whether it was refused.
+// Answers a line, and says whether it was refused.
 fn step<K: Sink>(
     alloc: Global,
-    opened: &mut Option<Laws>,
+    desk: &mut Desk,
     text: &mut Text,
-    command: Command<'_>,
+    line: Option<&[u8]>,
     number: u64,
     sink: &mut K,
 ) -> Result<bool, Ending>
-    requires { IsWithin 4096 command }
-    ensures ok { IfOk result (λ refused. WritesReply (state_of opened.old) (request_from command.entry) number (K.took sink.old) (K.took sink.new) refused (state_of opened.new)) }
+    requires short { IfSome line (λ line. length line.now ≤ 4096) }
+    requires sound { IsSound desk.old }
+    ensures agrees { OnOk result (IfSome desk.new.opened Agrees) }
+    ensures ok { IfOk result (λ refused. (state : State) → IsDesk desk.old state → WritesReply state number (given_text line.entry) (K.took sink.old) (K.took sink.new) refused (IsDesk desk.new)) }
     ensures memory { IsErrOf result Ending.NoMemory → WritesNothing (K.took sink.old) (K.took sink.new) }
-    ensures write { IsErrOf result Ending.WriteFault → WritesSome (state_of opened.old) (request_from command.entry) number (K.took sink.old) (K.took sink.new) }
+    ensures write { IsErrOf result Ending.WriteFault → (state : State) → IsDesk desk.old state → WritesSome state number (given_text line.entry) (K.took sink.old) (K.took sink.new) (IsDesk desk.new) }
     ensures cause { IsErrOf result Ending.WriteFault → Rose (K.faults sink.old) (K.faults sink.new) }
     ensures later { K.faults sink.old ≤ K.faults sink.new }
     ensures errors { IfErr result (λ e. (e ≡ Ending.NoMemory) ⊎ (e ≡ Ending.WriteFault)) }
 {
     text.clear();
-    let Ok(refused) = respond(alloc, text, opened, command, number) else {
+    let Ok(refused) = respond(alloc, text, desk, line, number) else {
         return Err(Ending::NoMemory);
     };
     match write_all(sink, text.as_slice()) {
         Ok(()) => Ok(refused),
         Err(_) => Err(Ending::WriteFault),
+    }
+}
+
+// Answers a file whose body isn't closed where the source ends, and ends the session; `refused`
+// says whether a line was refused before.
+fn close<K: Sink>(
+    alloc: Global,
+    desk: &mut Desk,
+    text: &mut Text,
+    refused: bool,
+    sink: &mut K,
+) -> Ending
+    requires { IsSound desk.old }
+    ensures done { IsDone result (λ bad. (state : State) → IsDesk desk.old state → WritesClose state refused (K.took sink.old) (K.took sink.new) bad) }
+    ensures memory { result ≡ Ending.NoMemory → WritesNothing (K.took sink.old) (K.took sink.new) }
+    ensures write { result ≡ Ending.WriteFault → (state : State) → IsDesk desk.old state → WritesSomeOfClose state refused (K.took sink.old) (K.took sink.new) }
+    ensures cause { result ≡ Ending.WriteFault → Rose (K.faults sink.old) (K.faults sink.new) }
+    ensures ends { IsEnd result }
+{
+    text.clear();
+    let Ok(also) = respond_at_end(alloc, text, desk) else {
+        return Ending::NoMemory;
+    };
+    match write_all(sink, text.as_slice()) {
+        Ok(()) => Ending::Done(either(refused, also)),
+        Err(_) => Ending::WriteFault,
     }
 }
 
@@ -101,7 +136,7 @@ fn serve<S: Source, K: Sink>(alloc: Global, limit: u64, source: &mut S, sink: &m
         return Ending::NoMemory;
     };
     let mut text = Text::empty(alloc);
-    let mut opened = None;
+    let mut desk = Desk::start();
     let mut refused = false;
     'served: loop {
         let next = match lines.next(source) {
@@ -109,11 +144,11 @@ fn serve<S: Source, K: Sink>(alloc: Global, limit: u64, source: &mut S, sink: &m
             Err(InFault::ReadFault) => return Ending::ReadFault,
             Err(InFault::TooMuch { .. }) => return Ending::TooMuch,
         };
-        if next == Next::End {
-            return Ending::Done(refused);
+        if is_end(next) {
+            return close(alloc, &mut desk, &mut text, refused, sink);
         }
-        let command = command_read(next, &lines);
-        match step(alloc, &mut opened, &mut text, command, lines.number(), sink) {
+        let line = line_read(next, &lines);
+        match step(alloc, &mut desk, &mut text, line, lines.number(), sink) {
             Ok(also) => refused = either(refused, also),
             Err(ending) => return ending,
         }

@@ -61,7 +61,7 @@ fn sessions_write_their_text(rt: HostRuntime) {
             1,
         ),
         plain(
-            "ask 1 1\nlwa 1\n",
+            "why 1 1\nlwa 1\n",
             "refused 1: not built\nrefused 2: bad line\n",
             1,
         ),
@@ -85,6 +85,109 @@ fn sessions_write_their_text(rt: HostRuntime) {
                 case.input
             );
         }
+    }
+}
+
+const PROOF: &str = "file p1\nproof 4 3\nlemma x\nstep 0 > . x * x\nend\n";
+
+#[test]
+fn files_are_accepted_cited_and_withdrawn(rt: HostRuntime) {
+    let cases = [
+        plain(
+            "file p1\nproof 4 3\nlemma x\nstep 0 > . x * x\nend\nask 4 3\nask 5 3\nask 3 4\ncounts\n",
+            "accepted p1: implies 4 3\n4 3 implied\n5 3 implied\n3 4 open\nimplied 4696 refuted 0 open 22028940\n",
+            0,
+        ),
+        plain(
+            "file p\nproof 4 43\nlemma x * y\nstep 0 > . y * x\nend\nfile p\nproof 4 3\nlemma x\nstep 0 > . x * x\nend\nfile p\nend\nfiles\n",
+            "refused 1: p: no match lemma 1 step 1\naccepted p: implies 4 3\nrefused 11: name taken p\np proof 4 3\nfiles 1\n",
+            1,
+        ),
+        plain(
+            "file a\nproof 4 3\nlemma x\nstep 0 > . x * x\nend\nfile b\nproof2 4 8\ncite a\nlemma x\nstep c1 > . x * x\nstep c1 > r x * (x * x)\nend\nwithdraw a\nwithdraw b\nwithdraw a\nask 4 3\nwithdraw a\n",
+            "accepted a: implies 4 3\naccepted b: implies 4 8\nrefused 13: cited a by b\nwithdrawn b\nwithdrawn a\n4 3 open\nrefused 17: no such name a\n",
+            1,
+        ),
+    ];
+    for case in &cases {
+        for piece in [1, 7, 4096] {
+            let cut = Case {
+                read: piece,
+                write: piece,
+                ..*case
+            };
+            assert!(rt;
+                is_right(rt.alloc(), &cut).expect(&rt, "memory"),
+                "{}",
+                case.input
+            );
+        }
+    }
+}
+
+#[test]
+fn wrong_files_are_refused_for_their_first_offence(rt: HostRuntime) {
+    let cases = [
+        (
+            "proof 4 3\nlemma x\nstep 1 > . x * x",
+            "reference lemma 1 step 1 line 1",
+        ),
+        (
+            "proof 4 43\nlemma x\nstep 0 > . x * x",
+            "goal differs found 3",
+        ),
+        (
+            "proof 4 3\nlemma x\nstep 0 > l x * x",
+            "no place lemma 1 step 1",
+        ),
+        (
+            "proof 4 3\nlemma x * y\nstep 0 > l (x * x) * x",
+            "outside changed lemma 1 step 1",
+        ),
+        ("proof 4 4695\nlemma x", "unknown law 4695 in line 1"),
+        ("proof 4 3", "unfinished at 2"),
+        ("proof 4 3\nlemma x +", "bad line 2"),
+        ("proof 4 3\nlemma x * y", "goal differs found trivial"),
+        ("# c\nproof 4 3\nlemma x", "goal differs found 1"),
+        ("proof2 4 3\ncite zz\nlemma x", "cite missing 1"),
+        ("\ntable 2", "not built"),
+    ];
+    for (body, why) in cases {
+        let input = format!(in rt.alloc(); "file q\n{body}\nend\n").expect(&rt, "memory");
+        let output = format!(in rt.alloc(); "refused 1: q: {why}\n").expect(&rt, "memory");
+        assert!(rt;
+            is_right(rt.alloc(), &plain(input.as_str(), output.as_str(), 1)).expect(&rt, "memory"),
+            "{body}"
+        );
+    }
+}
+
+#[test]
+fn a_file_that_is_not_closed_is_refused_where_the_source_ends(rt: HostRuntime) {
+    let cases = [
+        plain(
+            "file p1\nproof 4 3\nlemma x",
+            "refused 1: p1: unfinished at 3\n",
+            1,
+        ),
+        plain("file .\nlemma x", "refused 1: bad line\n", 1),
+        Case {
+            read: 8,
+            failing_read: 2,
+            ..plain(PROOF, "", 3)
+        },
+        Case {
+            write: 1,
+            failing_write: 3,
+            ..plain("file p1\n", "re", 4)
+        },
+    ];
+    for case in &cases {
+        assert!(rt;
+            is_right(rt.alloc(), case).expect(&rt, "memory"),
+            "{}",
+            case.input
+        );
     }
 }
 

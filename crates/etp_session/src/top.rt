@@ -7,10 +7,11 @@ ghost use Rattle.etp_session.specs.Listings.{ListsLaws};
 ghost use Rattle.etp_session.specs.Sessions.{IsSession};
 ghost use Rattle.etp_session.specs.Ends.{EndsWell, WritesPrefix, WritesWholeLines, Takes, TakesWithin, StopsAtFault};
 
-use crate::command::{ListOrder, is};
+use crate::command::ListOrder;
 use crate::listing::list_laws;
 use crate::serving::session;
 use etp_io::{Shelf, Sink, Source, SureShelf, SureSink, SureSource};
+use etp_items::is;
 use std::alloc::Global;
 
 /// The most bytes of a source.

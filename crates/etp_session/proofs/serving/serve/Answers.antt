@@ -1,7 +1,8 @@
-use Rattle.std.proofs.Common.{arith, ◌≡◌, ◌+◌, ap, inl, inr, rules, ◌∙◌}
+use Rattle.std.proofs.Common.{arith, ◌≡◌, ◌+◌, ap, inl, inr, ◌∙◌}
+use Rattle.etp_session.proofs.FileAnswers.{untrue}
 use Rattle.std.specs.Prelude.{Err}
 use Rattle.etp_io.specs.declared.lines.Next.TheVariants.{End}
-use Rattle.etp_session.proofs.Running.{running-then, ends-well, ends-in_reply, ends-before_reply, takes-within, stops, stops-at_fault, goes-on}
+use Rattle.etp_session.proofs.Running.{running-then, ends-well, ends-in_reply, ends-before_reply, ends-in_close, takes-within, takes-now, stops, stops-at_fault, goes-on, done-close, cut-close, no_read, no_limit}
 use Rattle.etp_session.proofs.serving.serve.Goals as goal
 
 pub returns-in-Err-ReadFault-clause-read_end : goal.returns-in-Err-ReadFault-clause-read_end
@@ -19,6 +20,12 @@ returns-in-Err-ReadFault-clause-within g c n =
     takes-within _ _ _ _ _ _ _ _ _ _ _ c.next.new.self _ _ c.served.invariant.0
     (rw (c.in-Err-ReadFault.ensures.err, c.in-Err-ReadFault.field-0-is) at c.next.ensures.says) c.next.ensures.limit c.next.ensures.taken c.next.ensures.loses c.next.ensures.given
 
+pub returns-in-Err-TooMuch-clause-too_much : goal.returns-in-Err-TooMuch-clause-too_much
+returns-in-Err-TooMuch-clause-too_much g c _ =
+    let says = rw (c.in-Err-TooMuch.ensures.err, c.in-Err-TooMuch.field-0-is) at c.next.ensures.says in
+    let amount : c.next.new.self.taken ≡ c.args.limit + 1 = omega (arith, says.0, c.next.ensures.limit, c.served.invariant.0.limited) in
+    rw amount at (takes-now _ _ _ _ _ _ _ _ _ _ _ c.next.new.self _ _ c.served.invariant.0 c.next.ensures.taken c.next.ensures.loses c.next.ensures.given)
+
 pub returns-in-Err-TooMuch-clause-too_much_end : goal.returns-in-Err-TooMuch-clause-too_much_end
 returns-in-Err-TooMuch-clause-too_much_end g c _ =
     let open_still = c.served.invariant.0.open_still in
@@ -29,38 +36,66 @@ returns-in-Err-TooMuch-clause-too_much_end g c _ =
     (c.next.ensures.before open_still c.served.invariant.0.fits)
     (c.in-Err-TooMuch.ensures.last open_still) c.next.ensures.taken)
 
-pub returns-then-eq-clause-done : goal.returns-then-eq-clause-done
-returns-then-eq-clause-done g c =
-    let over : c.in-Ok-next.next ≡ End = search rules in
+pub returns-then-is_end-clause-done : goal.returns-then-is_end-clause-done
+returns-then-is_end-clause-done g c =
+    let over : c.in-Ok-next.next ≡ End = c.is_end.ensures.0 c.if-is_end.true in
     let end = c.in-Ok-next.ensures.end over in
-    ends-well _ _ _ _ _ _ _ _ _ _ _ c.next.new.self _ _ c.served.invariant.0 c.next.ensures.fits (λ f. rw over at (c.in-Ok-next.ensures.lines f)) end.0 end.1
+    done-close c.close.result _ _ c.close.ensures.done (λ bad w.
+    ends-well _ _ _ _ _ _ _ _ _ _ _ _ c.next.new.self _ bad _ c.served.invariant.0 c.next.ensures.fits (λ f. rw over at (c.in-Ok-next.ensures.lines f)) end.0 end.1 w)
 
-pub returns-then-eq-clause-within : goal.returns-then-eq-clause-within
-returns-then-eq-clause-within g c n =
+pub returns-then-is_end-clause-cut : goal.returns-then-is_end-clause-cut
+returns-then-is_end-clause-cut g c =
+    let over : c.in-Ok-next.next ≡ End = c.is_end.ensures.0 c.if-is_end.true in
+    let end = c.in-Ok-next.ensures.end over in
+    cut-close c.close.result _ c.close.ensures.ends
+    (λ e. ends-before_reply _ _ _ _ _ _ _ _ _ _ _ _ c.served.invariant.0 (c.close.ensures.memory e))
+    (λ e. ends-in_close _ _ _ _ _ _ _ _ _ _ _ _ c.next.new.self _ _ c.served.invariant.0 c.next.ensures.fits (λ f. rw over at (c.in-Ok-next.ensures.lines f)) end.0 end.1 (c.close.ensures.write e))
+
+pub returns-then-is_end-clause-read : goal.returns-then-is_end-clause-read
+returns-then-is_end-clause-read g c e = absurd (no_read c.close.result c.close.ensures.ends e)
+
+pub returns-then-is_end-clause-read_end : goal.returns-then-is_end-clause-read_end
+returns-then-is_end-clause-read_end g c e = absurd (no_read c.close.result c.close.ensures.ends e)
+
+pub returns-then-is_end-clause-too_much : goal.returns-then-is_end-clause-too_much
+returns-then-is_end-clause-too_much g c e = absurd (no_limit c.close.result c.close.ensures.ends e)
+
+pub returns-then-is_end-clause-too_much_end : goal.returns-then-is_end-clause-too_much_end
+returns-then-is_end-clause-too_much_end g c e = absurd (no_limit c.close.result c.close.ensures.ends e)
+
+pub returns-then-is_end-clause-within : goal.returns-then-is_end-clause-within
+returns-then-is_end-clause-within g c n =
     takes-within _ _ _ _ _ _ _ _ _ _ _ c.next.new.self _ _ c.served.invariant.0
     (rw c.in-Ok-next.ensures.ok at c.next.ensures.says) c.next.ensures.limit c.next.ensures.taken c.next.ensures.loses c.next.ensures.given
 
 pub served-preserved : goal.served-preserved
 served-preserved g c =
-    let more : c.in-Ok-next.next ≡ End → ⊥ = search rules in (
+    let more : c.in-Ok-next.next ≡ End → ⊥ = untrue c.is_end.result _ c.is_end.ensures c.if-is_end.false in (
       rw c.either-refused.ensures
           (running-then _ _ _ _ _ _ _ _ _ _ _ _ _ c.next.new.self _ c.in-Ok-step.also c.in-Ok-next.next _ _ c.served.invariant.0
           c.next.ensures.fits c.in-Ok-next.ensures.lines more c.in-Ok-next.ensures.number c.in-Ok-next.ensures.ok c.next.ensures.says c.next.ensures.limit
-          (omega (arith, c.number.ensures.counted)) c.next.ensures.taken c.next.ensures.loses c.next.ensures.given (rw (c.command_read-command.ensures.request, c.number.ensures.number) at c.in-Ok-step.ensures.ok)),
-      omega (arith, c.served.invariant.1, c.next.ensures.later),
-      omega (arith, c.served.invariant.2, c.step.ensures.later),
+          (omega (arith, c.number.ensures.counted)) c.next.ensures.taken c.next.ensures.loses c.next.ensures.given (λ state now. rw (c.line_read-line.ensures.text, c.number.ensures.number) at (c.in-Ok-step.ensures.ok state now))),
+      c.in-Ok-step.ensures.agrees,
+      omega (arith, c.served.invariant.2, c.next.ensures.later),
+      omega (arith, c.served.invariant.3, c.step.ensures.later),
     )
 
 pub returns-in-Err-clause-cut : goal.returns-in-Err-clause-cut
 returns-in-Err-clause-cut g c =
-    let more : c.in-Ok-next.next ≡ End → ⊥ = search rules in
+    let more : c.in-Ok-next.next ≡ End → ⊥ = untrue c.is_end.result _ c.is_end.ensures c.if-is_end.false in
     elim c.in-Err.ensures.errors [
       | inl e ↦ rw e (ends-before_reply _ _ _ _ _ _ _ _ _ _ _ _ c.served.invariant.0 (c.in-Err.ensures.memory (ap Err e)))
-      | inr e ↦ rw e (ends-in_reply _ _ _ _ _ _ _ _ _ _ _ c.next.new.self _ c.in-Ok-next.next _ c.served.invariant.0
-          c.in-Ok-next.ensures.lines more c.in-Ok-next.ensures.number (rw (c.command_read-command.ensures.request, c.number.ensures.number) at (c.in-Err.ensures.write (ap Err e))))
+      | inr e ↦ rw e (ends-in_reply _ _ _ _ _ _ _ _ _ _ _ c.next.new.self _ c.in-Ok-next.next _ _ c.served.invariant.0
+          c.in-Ok-next.ensures.lines more c.in-Ok-next.ensures.number (λ state now. rw (c.line_read-line.ensures.text, c.number.ensures.number) at (c.in-Err.ensures.write (ap Err e) state now)))
     ]
 
 pub returns-in-Err-clause-within : goal.returns-in-Err-clause-within
 returns-in-Err-clause-within g c n =
     takes-within _ _ _ _ _ _ _ _ _ _ _ c.next.new.self _ _ c.served.invariant.0
     (rw c.in-Ok-next.ensures.ok at c.next.ensures.says) c.next.ensures.limit c.next.ensures.taken c.next.ensures.loses c.next.ensures.given
+
+pub step-requires-clause-sound : goal.step-requires-clause-sound
+step-requires-clause-sound g c = record { state = c.served.invariant.0.state; stands = c.served.invariant.0.stands; agrees = c.served.invariant.1 }
+
+pub close-requires : goal.close-requires
+close-requires g c = record { state = c.served.invariant.0.state; stands = c.served.invariant.0.stands; agrees = c.served.invariant.1 }
