@@ -10,3 +10,4 @@ pub mod StateAnswers
 pub mod PairAnswers
 pub mod OneText
 pub mod Running
+pub mod ShelfReading

@@ -14,7 +14,7 @@ use Rattle.etp_text.proofs.OneRefusal.{one_law_refusal}
 use Rattle.etp_io.specs.Texts.{LineText}
 use Rattle.etp_replay.specs.Names.{IsName}
 use Rattle.etp_items.specs.Bodies.{FileBody}
-use Rattle.etp_items.specs.Reading.{IsReadBody}
+use Rattle.etp_items.specs.Reading.{GivenLine, IsReadBody}
 use Rattle.etp_items.proofs.OneBody.{one_body}
 use Rattle.etp_items.proofs.OneRefusal.{body_stands, one_refusal}
 use Rattle.etp_items.specs.declared.refusal.BodyRefusal.{BodyRefusal}
@@ -27,11 +27,12 @@ use Rattle.etp_ledger.specs.declared.refusal.LedgerRefusal.TheVariants.{NoMemory
 use Rattle.etp_ledger.proofs.Verdicts as Verdict
 use Rattle.etp_session.specs.Texts.{Reply, answered, refused}
 use Rattle.etp_session.specs.RefusalTexts.{text_refusal, body_refusal}
-use Rattle.etp_session.specs.States.{Opened, Opens, Filing, State, unopened, over, filing}
+use Rattle.etp_session.specs.States.{Opened, Opens, Filing, State, unopened, over, filing, stopped}
+use Rattle.etp_session.specs.Shelves.{KnownShelf, HasLines, IsMissing}
 use Rattle.etp_session.specs.Bodies.{FileReply, no_name, name_taken, not_built, no_body, not_accepted, accepted, BodyReply, goes_on, closes, HasNoName, HasFreeName, refused_file, file_refusal, accepted_line}
 use Rattle.etp_session.specs.LedgerReplies.{WithdrawReply, no_name as no_such_word, unknown_name, cited, withdrawn}
-use Rattle.etp_session.specs.Requests.{Request, blank, long, order, law, number, dual, ask, file, withdraw, files as all_files, counts, not_built as not_built_yet, bad, asked}
-use Rattle.etp_session.specs.Replies.{law_reply, NumberedReply, too_many, trivial, numbered, NumberReply, unread, read, DualReply, Answers, OpenReply, FirstReply, Replies, Closes}
+use Rattle.etp_session.specs.Requests.{Request, blank, long, order, law, number, dual, ask, file, load, withdraw, files as all_files, counts, not_built as not_built_yet, bad, asked}
+use Rattle.etp_session.specs.Replies.{law_reply, NumberedReply, too_many, trivial, numbered, NumberReply, unread, read, DualReply, Answers, LoadReply, unreached, loaded, missing, loading, OpenReply, FirstReply, Replies, Closes}
 use Rattle.etp_session.specs.Sessions.{Item, Session, IsSession, items_of}
 use Rattle.etp_session.proofs.OneAnswer.{ask_reply-only, counts_reply-only}
 
@@ -207,6 +208,7 @@ Answers-only o l (number text) r s g h a b = (number_reply-only o.laws.order o.l
 Answers-only o l (dual n) r s g h a b = (dual_reply-only o.laws.order o.laws.equations l n (entry_at o.laws.equations n) r s a.0 b.0, a.1 ∙ sym b.1)
 Answers-only o l (ask e f) r s g h a b = (ask_reply-only o e f r s a.0 b.0, a.1 ∙ sym b.1)
 Answers-only o l (file word) r s g h a b = absurd a
+Answers-only o l (load word) r s g h a b = absurd a
 Answers-only o l (withdraw word) r s g h a b = withdraw_reply-only o.files word r s g h a b
 Answers-only o l all_files r s g h a b = (a.0 ∙ sym b.0, a.1 ∙ sym b.1)
 Answers-only o l counts r s g h a b = (counts_reply-only o r s a.0 b.0, a.1 ∙ sym b.1)
@@ -218,6 +220,11 @@ pub IsRightState : State → Type 0
 IsRightState unopened = Unit {0}
 IsRightState (over o) = IsTheList o.laws.order o.laws.equations
 IsRightState (filing o f) = IsTheList o.laws.order o.laws.equations
+IsRightState stopped = Unit {0}
+
+-- a shelf that tells what it keeps
+abbrev pub told : ℕ → (List ℕ → Option (List ℕ)) → KnownShelf
+told limit kept = record { limit = limit; keeps = Some kept }
 
 open-answer : (o : Opened) → IsTheList o.laws.order o.laws.equations → (request : Request) (r s : Reply) (f g : State)
     → ((fs : List File) × Answers o request r fs × (f ≡ over (record { laws = o.laws; files = fs }))) → ((gs : List File) × Answers o request s gs × (g ≡ over (record { laws = o.laws; files = gs })))
@@ -227,21 +234,55 @@ open-answer o l request r s f g a b =
     let one = Answers-only o l request r s a.0 b.0 a.1 b.1 in
     (one.0, a.2 ∙ ap (λ (k : List File). over (record { laws = o.laws; files = k })) one.1 ∙ sym b.2, subst IsRightState (sym a.2) l)
 
-open_reply-only : (o : Opened) → IsTheList o.laws.order o.laws.equations → (n : ℕ) (request : Request) (r s : Reply) (f g : State) → OpenReply o n request r f → OpenReply o n request s g → (r ≡ s) × (f ≡ g) × IsRightState f
+one_body_lines : (limit : ℕ) (kept : Option (List ℕ)) (a b : List GivenLine) → HasLines limit a kept → HasLines limit b kept → a ≡ b
+one_body_lines limit None a b h k = absurd h
+one_body_lines limit (Some bytes) a b h k = h.1 ∙ sym k.1
+
+lines_or_missing : (limit : ℕ) (kept : Option (List ℕ)) (a : List GivenLine) → HasLines limit a kept → IsMissing limit kept → ⊥
+lines_or_missing limit None a h m = h
+lines_or_missing limit (Some bytes) a h m = omega (arith, h.0, m)
+
+-- a file that is read has one reply
+file-state : (o : Opened) → IsTheList o.laws.order o.laws.equations → (q : Filing) (r s : Reply) (x y : List File) (f g : State)
+    → FileReply o q true r x → FileReply o q true s y → f ≡ over (record { laws = o.laws; files = x }) → g ≡ over (record { laws = o.laws; files = y })
+    → (r ≡ s) × (f ≡ g) × IsRightState f
 unfolding IsRightState
-open_reply-only o l n blank r s f g a b = open-answer o l blank r s f g a b
-open_reply-only o l n long r s f g a b = open-answer o l long r s f g a b
-open_reply-only o l n (order k) r s f g a b = open-answer o l (order k) r s f g a b
-open_reply-only o l n (law m) r s f g a b = open-answer o l (law m) r s f g a b
-open_reply-only o l n (number t) r s f g a b = open-answer o l (number t) r s f g a b
-open_reply-only o l n (dual m) r s f g a b = open-answer o l (dual m) r s f g a b
-open_reply-only o l n (ask e i) r s f g a b = open-answer o l (ask e i) r s f g a b
-open_reply-only o l n (file word) r s f g a b = (a.0 ∙ sym b.0, a.1 ∙ sym b.1, subst IsRightState (sym a.1) l)
-open_reply-only o l n (withdraw word) r s f g a b = open-answer o l (withdraw word) r s f g a b
-open_reply-only o l n all_files r s f g a b = open-answer o l all_files r s f g a b
-open_reply-only o l n counts r s f g a b = open-answer o l counts r s f g a b
-open_reply-only o l n not_built_yet r s f g a b = open-answer o l not_built_yet r s f g a b
-open_reply-only o l n bad r s f g a b = open-answer o l bad r s f g a b
+file-state o l q r s x y f g a b e h =
+    let one = file_reply-only o q true l r s x y a b in
+    (one.0, e ∙ ap (λ (k : List File). over (record { laws = o.laws; files = k })) one.1 ∙ sym h, subst IsRightState (sym e) l)
+
+load_reply-only : (limit : ℕ) (kept : List ℕ → Option (List ℕ)) (o : Opened) → IsTheList o.laws.order o.laws.equations → (n : ℕ) (word : List ℕ) (r s : Reply) (f g : State)
+    → LoadReply (told limit kept) o n word r f → LoadReply (told limit kept) o n word s g → (r ≡ s) × (f ≡ g) × IsRightState f
+unfolding IsRightState
+load_reply-only limit kept o l n word r s f g (unreached x h a e) (unreached y k b i) = file-state o l (loading n word []) r s x y f g a b e i
+load_reply-only limit kept o l n word r s f g (unreached x h a e) (loaded lines y k m b i) = absurd (h k)
+load_reply-only limit kept o l n word r s f g (unreached x h a e) (missing k m b i) = absurd (h k)
+load_reply-only limit kept o l n word r s f g (loaded lines x h m a e) (unreached y k b i) = absurd (k h)
+load_reply-only limit kept o l n word r s f g (loaded lines x h m a e) (loaded more y k v b i) =
+    let same : more ≡ lines = one_body_lines limit (kept word) more lines v m in
+    file-state o l (loading n word lines) r s x y f g a (subst (λ (ls : List GivenLine). FileReply o (loading n word ls) true s y) same b) e i
+load_reply-only limit kept o l n word r s f g (loaded lines x h m a e) (missing k v b i) = absurd (lines_or_missing limit (kept word) lines m v)
+load_reply-only limit kept o l n word r s f g (missing h m a e) (unreached y k b i) = absurd (k h)
+load_reply-only limit kept o l n word r s f g (missing h m a e) (loaded lines y k v b i) = absurd (lines_or_missing limit (kept word) lines v m)
+load_reply-only limit kept o l n word r s f g (missing h m a e) (missing k v b i) = (a ∙ sym b, e ∙ sym i, subst IsRightState (sym e) tt)
+
+open_reply-only : (limit : ℕ) (kept : List ℕ → Option (List ℕ)) (o : Opened) → IsTheList o.laws.order o.laws.equations → (n : ℕ) (request : Request) (r s : Reply) (f g : State)
+    → OpenReply (told limit kept) o n request r f → OpenReply (told limit kept) o n request s g → (r ≡ s) × (f ≡ g) × IsRightState f
+unfolding IsRightState
+open_reply-only limit kept o l n blank r s f g a b = open-answer o l blank r s f g a b
+open_reply-only limit kept o l n long r s f g a b = open-answer o l long r s f g a b
+open_reply-only limit kept o l n (order k) r s f g a b = open-answer o l (order k) r s f g a b
+open_reply-only limit kept o l n (law m) r s f g a b = open-answer o l (law m) r s f g a b
+open_reply-only limit kept o l n (number t) r s f g a b = open-answer o l (number t) r s f g a b
+open_reply-only limit kept o l n (dual m) r s f g a b = open-answer o l (dual m) r s f g a b
+open_reply-only limit kept o l n (ask e i) r s f g a b = open-answer o l (ask e i) r s f g a b
+open_reply-only limit kept o l n (file word) r s f g a b = (a.0 ∙ sym b.0, a.1 ∙ sym b.1, subst IsRightState (sym a.1) l)
+open_reply-only limit kept o l n (load word) r s f g a b = load_reply-only limit kept o l n word r s f g a b
+open_reply-only limit kept o l n (withdraw word) r s f g a b = open-answer o l (withdraw word) r s f g a b
+open_reply-only limit kept o l n all_files r s f g a b = open-answer o l all_files r s f g a b
+open_reply-only limit kept o l n counts r s f g a b = open-answer o l counts r s f g a b
+open_reply-only limit kept o l n not_built_yet r s f g a b = open-answer o l not_built_yet r s f g a b
+open_reply-only limit kept o l n bad r s f g a b = open-answer o l bad r s f g a b
 
 abbrev opened_by : ℕ → List Equation → List ℕ → List File → Opened
 opened_by k laws duals files = record { laws = record { order = k; equations = laws; duals = duals }; files = files }
@@ -281,29 +322,31 @@ opens-one k o p a b =
     let whole : opened_by o.laws.order o.laws.equations o.laws.duals o.files ≡ opened_by p.laws.order p.laws.equations p.laws.duals p.files = rw (orders, laws, duals, none) refl in
     whole
 
-opens-only : (k n : ℕ) (request : Request) (r s : Reply) (f g : State)
-    → ((o : Opened) × Opens k o × OpenReply o n request r f) → ((o : Opened) × Opens k o × OpenReply o n request s g) → (r ≡ s) × (f ≡ g) × IsRightState f
-opens-only k n request r s f g a b =
+opens-only : (limit : ℕ) (kept : List ℕ → Option (List ℕ)) (k n : ℕ) (request : Request) (r s : Reply) (f g : State)
+    → ((o : Opened) × Opens k o × OpenReply (told limit kept) o n request r f) → ((o : Opened) × Opens k o × OpenReply (told limit kept) o n request s g) → (r ≡ s) × (f ≡ g) × IsRightState f
+opens-only limit kept k n request r s f g a b =
     let same : b.0 ≡ a.0 = opens-one k b.0 a.0 b.1 a.1 in
-    open_reply-only a.0 (rw a.1.order_is a.1.list) n request r s f g a.2 (subst (λ (o : Opened). OpenReply o n request s g) same b.2)
+    open_reply-only limit kept a.0 (rw a.1.order_is a.1.list) n request r s f g a.2 (subst (λ (o : Opened). OpenReply (told limit kept) o n request s g) same b.2)
 
-first_reply-only : (n : ℕ) (request : Request) (r s : Reply) (f g : State) → FirstReply n request r f → FirstReply n request s g → (r ≡ s) × (f ≡ g) × IsRightState f
+first_reply-only : (limit : ℕ) (kept : List ℕ → Option (List ℕ)) (n : ℕ) (request : Request) (r s : Reply) (f g : State)
+    → FirstReply (told limit kept) n request r f → FirstReply (told limit kept) n request s g → (r ≡ s) × (f ≡ g) × IsRightState f
 unfolding IsRightState
-first_reply-only n blank r s f g a b = (a.0 ∙ sym b.0, a.1 ∙ sym b.1, subst IsRightState (sym a.1) tt)
-first_reply-only n (order k) r s f g a b =
+first_reply-only limit kept n blank r s f g a b = (a.0 ∙ sym b.0, a.1 ∙ sym b.1, subst IsRightState (sym a.1) tt)
+first_reply-only limit kept n (order k) r s f g a b =
     let same : a.0 ≡ b.0 = opens-one k a.0 b.0 a.1 b.1 in
     (a.2 ∙ sym b.2, a.3 ∙ ap over same ∙ sym b.3, subst IsRightState (sym a.3) (rw a.1.order_is a.1.list))
-first_reply-only n long r s f g a b = opens-only 4 n long r s f g a b
-first_reply-only n (law m) r s f g a b = opens-only 4 n (law m) r s f g a b
-first_reply-only n (number t) r s f g a b = opens-only 4 n (number t) r s f g a b
-first_reply-only n (dual m) r s f g a b = opens-only 4 n (dual m) r s f g a b
-first_reply-only n (ask e i) r s f g a b = opens-only 4 n (ask e i) r s f g a b
-first_reply-only n (file w) r s f g a b = opens-only 4 n (file w) r s f g a b
-first_reply-only n (withdraw w) r s f g a b = opens-only 4 n (withdraw w) r s f g a b
-first_reply-only n all_files r s f g a b = opens-only 4 n all_files r s f g a b
-first_reply-only n counts r s f g a b = opens-only 4 n counts r s f g a b
-first_reply-only n not_built_yet r s f g a b = opens-only 4 n not_built_yet r s f g a b
-first_reply-only n bad r s f g a b = opens-only 4 n bad r s f g a b
+first_reply-only limit kept n long r s f g a b = opens-only limit kept 4 n long r s f g a b
+first_reply-only limit kept n (law m) r s f g a b = opens-only limit kept 4 n (law m) r s f g a b
+first_reply-only limit kept n (number t) r s f g a b = opens-only limit kept 4 n (number t) r s f g a b
+first_reply-only limit kept n (dual m) r s f g a b = opens-only limit kept 4 n (dual m) r s f g a b
+first_reply-only limit kept n (ask e i) r s f g a b = opens-only limit kept 4 n (ask e i) r s f g a b
+first_reply-only limit kept n (file w) r s f g a b = opens-only limit kept 4 n (file w) r s f g a b
+first_reply-only limit kept n (load w) r s f g a b = opens-only limit kept 4 n (load w) r s f g a b
+first_reply-only limit kept n (withdraw w) r s f g a b = opens-only limit kept 4 n (withdraw w) r s f g a b
+first_reply-only limit kept n all_files r s f g a b = opens-only limit kept 4 n all_files r s f g a b
+first_reply-only limit kept n counts r s f g a b = opens-only limit kept 4 n counts r s f g a b
+first_reply-only limit kept n not_built_yet r s f g a b = opens-only limit kept 4 n not_built_yet r s f g a b
+first_reply-only limit kept n bad r s f g a b = opens-only limit kept 4 n bad r s f g a b
 
 right-after : (o : Opened) (f : Filing) (line : LineText) (r : Reply) (after : State) → IsTheList o.laws.order o.laws.equations → BodyReply o f line r after → IsRightState after
 unfolding IsRightState
@@ -311,19 +354,22 @@ right-after o f line r after l (goes_on t e x) = subst IsRightState (sym x) l
 right-after o f line r after l (closes fs t e x) = subst IsRightState (sym x) l
 
 -- a line has one reply, and leaves one state
-Replies-only : (before : State) → IsRightState before → (n : ℕ) (line : LineText) (r s : Reply) (f g : State) → Replies before n line r f → Replies before n line s g → (r ≡ s) × (f ≡ g) × IsRightState f
+Replies-only : (limit : ℕ) (kept : List ℕ → Option (List ℕ)) (before : State) → IsRightState before → (n : ℕ) (line : LineText) (r s : Reply) (f g : State)
+    → Replies (told limit kept) before n line r f → Replies (told limit kept) before n line s g → (r ≡ s) × (f ≡ g) × IsRightState f
 unfolding IsRightState
-Replies-only unopened l n line r s f g a b = first_reply-only n (asked line) r s f g a b
-Replies-only (over o) l n line r s f g a b = open_reply-only o l n (asked line) r s f g a b
-Replies-only (filing o q) l n line r s f g a b = let one = body_reply-only o q l line r s f g a b in (one.0, one.1, right-after o q line r f l a)
+Replies-only limit kept unopened l n line r s f g a b = first_reply-only limit kept n (asked line) r s f g a b
+Replies-only limit kept (over o) l n line r s f g a b = open_reply-only limit kept o l n (asked line) r s f g a b
+Replies-only limit kept (filing o q) l n line r s f g a b = let one = body_reply-only o q l line r s f g a b in (one.0, one.1, right-after o q line r f l a)
+Replies-only limit kept stopped l n line r s f g a b = (a.0 ∙ sym b.0, a.1 ∙ sym b.1, subst IsRightState (sym a.1) tt)
 
 -- a session has one text
-pub Session-only : (items : List Item) (first f g : State) (t u : List ℕ) (a b : Bool) → IsRightState first → Session first items t a f → Session first items u b g → (t ≡ u) × (a ≡ b) × (f ≡ g) × IsRightState f
-Session-only [] first f g t u a b right h k = (h.0 ∙ sym k.0, h.1 ∙ sym k.1, h.2 ∙ sym k.2, subst IsRightState (sym h.2) right)
-Session-only (item ∷ items) first f g t u a b right h k =
-    let one = Replies-only first right item.number item.line h.0 k.0 h.1 k.1 h.4 k.4 in
-    let there : Session h.1 items k.2 k.3 g = subst (λ (m : State). Session m items k.2 k.3 g) (sym one.1) k.5 in
-    let rest = Session-only items h.1 f g h.2 k.2 h.3 k.3 one.2 h.5 there in (
+pub Session-only : (limit : ℕ) (kept : List ℕ → Option (List ℕ)) (items : List Item) (first f g : State) (t u : List ℕ) (a b : Bool) → IsRightState first
+    → Session (told limit kept) first items t a f → Session (told limit kept) first items u b g → (t ≡ u) × (a ≡ b) × (f ≡ g) × IsRightState f
+Session-only limit kept [] first f g t u a b right h k = (h.0 ∙ sym k.0, h.1 ∙ sym k.1, h.2 ∙ sym k.2, subst IsRightState (sym h.2) right)
+Session-only limit kept (item ∷ items) first f g t u a b right h k =
+    let one = Replies-only limit kept first right item.number item.line h.0 k.0 h.1 k.1 h.4 k.4 in
+    let there : Session (told limit kept) h.1 items k.2 k.3 g = subst (λ (m : State). Session (told limit kept) m items k.2 k.3 g) (sym one.1) k.5 in
+    let rest = Session-only limit kept items h.1 f g h.2 k.2 h.3 k.3 one.2 h.5 there in (
       rw (h.6, k.6, one.0, rest.0) refl,
       rw (h.7, k.7, one.0, rest.1) refl,
       rest.2,
@@ -335,15 +381,17 @@ unfolding IsRightState
 closes-only unopened l r s a b = a ∙ sym b
 closes-only (over o) l r s a b = a ∙ sym b
 closes-only (filing o f) l r s a b = (file_reply-only o f false l r s a.0 b.0 a.1 b.1).0
+closes-only stopped l r s a b = a ∙ sym b
 
 right_start : IsRightState unopened
 unfolding IsRightState
 right_start = tt
 
 -- the whole text is one
-pub one-text : (bytes text other : List ℕ) (is_refused also : Bool) → IsSession bytes text is_refused → IsSession bytes other also → (text ≡ other) × (is_refused ≡ also)
-one-text bytes text other is_refused also h k =
-    let one = Session-only (items_of bytes) unopened h.last k.last h.front k.front h.some k.some right_start h.session k.session in
+pub one-text : (limit : ℕ) (kept : List ℕ → Option (List ℕ)) (bytes text other : List ℕ) (is_refused also : Bool)
+    → IsSession (told limit kept) bytes text is_refused → IsSession (told limit kept) bytes other also → (text ≡ other) × (is_refused ≡ also)
+one-text limit kept bytes text other is_refused also h k =
+    let one = Session-only limit kept (items_of bytes) unopened h.last k.last h.front k.front h.some k.some right_start h.session k.session in
     let there : Closes h.last k.reply = subst (λ (s : State). Closes s k.reply) (sym one.2) k.closes in
     let reply : h.reply ≡ k.reply = closes-only h.last one.3 h.reply k.reply h.closes there in (
       h.text_is ∙ rw (one.0, one.2, reply) (sym k.text_is),

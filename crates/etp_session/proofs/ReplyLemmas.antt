@@ -9,16 +9,18 @@ use Rattle.etp_laws.specs.declared.laws.Numbered.TheVariants.{Is, TooManyOps}
 use Rattle.etp_text.specs.Refusals.{side_limit}
 use Rattle.etp_ledger.specs.Files.{File}
 use Rattle.etp_session.specs.declared.command.Command.{Command}
-use Rattle.etp_session.specs.declared.command.Command.TheVariants.{Blank, Long, Order, Law, Number, Dual, Ask, File as FileCommand, Withdraw, Files, Counts, NotBuilt, Bad}
+use Rattle.etp_session.specs.declared.command.Command.TheVariants.{Blank, Long, Order, Law, Number, Dual, Ask, File as FileCommand, Load, Withdraw, Files, Counts, NotBuilt, Bad}
 use Rattle.etp_session.specs.declared.command.ListOrder.{ListOrder}
 use Rattle.etp_session.specs.declared.desk.Opened.{Opened}
-use Rattle.etp_session.specs.Requests.{Request, blank, long, order, law, number, dual, ask, file, withdraw, files, counts, not_built, bad}
+use Rattle.etp_session.specs.Requests.{Request, blank, long, order, law, number, dual, ask, file, load, withdraw, files, counts, not_built, bad}
 use Rattle.etp_session.specs.Commands.{request_from}
 use Rattle.etp_session.specs.Texts.{Reply, refused, reply_text, is_refusal}
 use Rattle.etp_session.specs.States as States
 use Rattle.etp_session.specs.States.{State, Opens, over}
 use Rattle.etp_session.specs.Replies.{law_reply, NumberedReply, too_many, numbered, Answers, OpenReply, FirstReply}
-use Rattle.etp_session.specs.Given.{Gives, GivesThen, GivesOpen, GivesOpened, GivesFirst}
+use Rattle.etp_session.specs.Given.{Gives, GivesThen, GivesState}
+use Rattle.etp_session.specs.Shelves.{KnownShelf}
+use Rattle.etp_session.specs.Outcomes.{OpenedReply}
 use Rattle.etp_session.specs.Desks.{opened_of, Agrees, IsStage}
 use Rattle.etp_session.specs.Filings.{Leaves}
 use Rattle.etp_session.proofs.FileAnswers.{kept}
@@ -52,50 +54,48 @@ pub answers-kept : (o : Opened) (request : Request) (n : ℕ) (text : List ℕ) 
 answers-kept o request n text flag P a f g = record { reply = g.reply; files = o.ledger.files; is = f g.reply g.is; stands = kept o a; text_is = g.text_is; refused_is = g.refused_is }
 
 -- an answer once the laws stand
-open-answered : (o : States.Opened) (n : ℕ) (request : Request) (reply : Reply) (after : List File) → Answers o request reply after
-    → OpenReply o n request reply (over (record { laws = o.laws; files = after }))
-open-answered o n blank reply after h = (after, h, refl)
-open-answered o n long reply after h = (after, h, refl)
-open-answered o n (order k) reply after h = (after, h, refl)
-open-answered o n (law m) reply after h = (after, h, refl)
-open-answered o n (number text) reply after h = (after, h, refl)
-open-answered o n (dual m) reply after h = (after, h, refl)
-open-answered o n (ask e f) reply after h = (after, h, refl)
-open-answered o n (file word) reply after h = absurd h
-open-answered o n (withdraw word) reply after h = (after, h, refl)
-open-answered o n files reply after h = (after, h, refl)
-open-answered o n counts reply after h = (after, h, refl)
-open-answered o n not_built reply after h = (after, h, refl)
-open-answered o n bad reply after h = (after, h, refl)
+open-answered : (s : KnownShelf) (o : States.Opened) (n : ℕ) (request : Request) (reply : Reply) (after : List File) → Answers o request reply after
+    → OpenReply s o n request reply (over (record { laws = o.laws; files = after }))
+open-answered s o n blank reply after h = (after, h, refl)
+open-answered s o n long reply after h = (after, h, refl)
+open-answered s o n (order k) reply after h = (after, h, refl)
+open-answered s o n (law m) reply after h = (after, h, refl)
+open-answered s o n (number text) reply after h = (after, h, refl)
+open-answered s o n (dual m) reply after h = (after, h, refl)
+open-answered s o n (ask e f) reply after h = (after, h, refl)
+open-answered s o n (file word) reply after h = absurd h
+open-answered s o n (load word) reply after h = absurd h
+open-answered s o n (withdraw word) reply after h = (after, h, refl)
+open-answered s o n files reply after h = (after, h, refl)
+open-answered s o n counts reply after h = (after, h, refl)
+open-answered s o n not_built reply after h = (after, h, refl)
+open-answered s o n bad reply after h = (after, h, refl)
 
-pub opens-answer : (o p : Opened) (request : Request) (n : ℕ) (text : List ℕ) (flag : Bool) → GivesThen n text flag (Answers (opened_of o) request) (Leaves o p)
-    → GivesOpen (opened_of o) n request text flag (IsStage (Some p) None)
-opens-answer o p request n text flag g = record {
+pub opens-answer : (s : KnownShelf) (o p : Opened) (request : Request) (n : ℕ) (text : List ℕ) (flag : Bool) → GivesThen n text flag (Answers (opened_of o) request) (Leaves o p)
+    → GivesState n text flag (OpenReply s (opened_of o) n request) (IsStage (Some p) None)
+opens-answer s o p request n text flag g = record {
   reply = g.reply;
   after = over (record { laws = o.laws; files = g.files });
-  replies = open-answered (opened_of o) n request g.reply g.files g.is;
+  replies = open-answered s (opened_of o) n request g.reply g.files g.is;
   stands = rw (g.stands.same_laws, g.stands.files_are) refl;
   text_is = g.text_is;
   refused_is = g.refused_is;
 }
 
 -- the first command that isn't blank and doesn't set the order opens the list of order 4
-pub first-gives : (command : Command) (n : ℕ) (text : List ℕ) (flag : Bool) (IsAfter : State → Type 0) → (command ≡ Blank → ⊥) → ((k : ListOrder) → command ≡ Order k → ⊥)
-    → GivesOpened n (request_from command) text flag IsAfter → GivesFirst n (request_from command) text flag IsAfter
-first-gives command n text flag IsAfter b k g = record { reply = g.gives.reply; after = g.gives.after; replies = by command b k g.gives.replies; stands = g.gives.stands; text_is = g.gives.text_is; refused_is = g.gives.refused_is }
-  where
-    by : (command : Command) → (command ≡ Blank → ⊥) → ((k : ListOrder) → command ≡ Order k → ⊥) → OpenReply g.opened n (request_from command) g.gives.reply g.gives.after
-        → FirstReply n (request_from command) g.gives.reply g.gives.after
-    by Blank b k h = absurd (b refl)
-    by Long b k h = (g.opened, g.opens, h)
-    by (Order o) b k h = absurd (k o refl)
-    by (Law m) b k h = (g.opened, g.opens, h)
-    by (Number t) b k h = (g.opened, g.opens, h)
-    by (Dual m) b k h = (g.opened, g.opens, h)
-    by (Ask e f) b k h = (g.opened, g.opens, h)
-    by (FileCommand w) b k h = (g.opened, g.opens, h)
-    by (Withdraw w) b k h = (g.opened, g.opens, h)
-    by Files b k h = (g.opened, g.opens, h)
-    by Counts b k h = (g.opened, g.opens, h)
-    by NotBuilt b k h = (g.opened, g.opens, h)
-    by Bad b k h = (g.opened, g.opens, h)
+pub first-reply : (s : KnownShelf) (command : Command) (n : ℕ) → (command ≡ Blank → ⊥) → ((k : ListOrder) → command ≡ Order k → ⊥) → (reply : Reply) (after : State)
+    → OpenedReply s n (request_from command) reply after → FirstReply s n (request_from command) reply after
+first-reply s Blank n b k reply after h = absurd (b refl)
+first-reply s Long n b k reply after h = h
+first-reply s (Order o) n b k reply after h = absurd (k o refl)
+first-reply s (Law m) n b k reply after h = h
+first-reply s (Number t) n b k reply after h = h
+first-reply s (Dual m) n b k reply after h = h
+first-reply s (Ask e f) n b k reply after h = h
+first-reply s (FileCommand w) n b k reply after h = h
+first-reply s (Load w) n b k reply after h = h
+first-reply s (Withdraw w) n b k reply after h = h
+first-reply s Files n b k reply after h = h
+first-reply s Counts n b k reply after h = h
+first-reply s NotBuilt n b k reply after h = h
+first-reply s Bad n b k reply after h = h

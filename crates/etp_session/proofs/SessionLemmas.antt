@@ -3,6 +3,7 @@ use Rattle.std.proofs.Common.{◌≡◌, ℕ, ◌+◌, List, [], ◌∷◌, ◌+
 use Rattle.etp_io.specs.Texts.{LineText}
 use Rattle.etp_session.specs.Texts.{Reply, reply_text, is_refusal}
 use Rattle.etp_session.specs.States.{State}
+use Rattle.etp_session.specs.Shelves.{KnownShelf}
 use Rattle.etp_session.specs.Replies.{Replies, answered_line}
 use Rattle.etp_session.specs.Sessions.{Item, Session, items_from}
 
@@ -20,26 +21,26 @@ items_from-append n (line ∷ lines) more =
     let e : n + 1 + length lines ≡ n + length (line ∷ lines) = omega arith in
     ap (λ l. record { number = n; line = line } ∷ l) (items_from-append (n + 1) lines more ∙ ap (λ k. items_from (n + 1) lines ++ items_from k more) e)
 
-pub Session-then : (first middle last : State) (items : List Item) (item : Item) (text : List ℕ) (wrong : Bool) (reply : Reply)
-    → Session first items text wrong middle → Replies middle item.number item.line reply last
-    → Session first (items ++ item ∷ []) (text ++ reply_text (answered_line middle item.number) reply) (wrong || is_refusal reply) last
-Session-then first middle last [] item text wrong reply h k = (
+pub Session-then : (s : KnownShelf) (first middle last : State) (items : List Item) (item : Item) (text : List ℕ) (wrong : Bool) (reply : Reply)
+    → Session s first items text wrong middle → Replies s middle item.number item.line reply last
+    → Session s first (items ++ item ∷ []) (text ++ reply_text (answered_line middle item.number) reply) (wrong || is_refusal reply) last
+Session-then s first middle last [] item text wrong reply h k = (
   reply,
   last,
   [],
   false,
-  subst (λ (s : State). Replies s item.number item.line reply last) h.2 k,
+  subst (λ (before : State). Replies s before item.number item.line reply last) h.2 k,
   (refl, refl, refl),
-  rw h.0 (subst (λ (s : State). reply_text (answered_line middle item.number) reply ≡ reply_text (answered_line s item.number) reply ++ []) h.2 (sym (append-nil (reply_text (answered_line middle item.number) reply)))),
+  rw h.0 (subst (λ (before : State). reply_text (answered_line middle item.number) reply ≡ reply_text (answered_line before item.number) reply ++ []) h.2 (sym (append-nil (reply_text (answered_line middle item.number) reply)))),
   rw h.1 (sym (or-false (is_refusal reply))),
 )
-Session-then first middle last (before ∷ items) item text wrong reply h k = (
+Session-then s first middle last (before ∷ items) item text wrong reply h k = (
   h.0,
   h.1,
   h.2 ++ reply_text (answered_line middle item.number) reply,
   h.3 || is_refusal reply,
   h.4,
-  Session-then h.1 middle last items item h.2 h.3 reply h.5 k,
+  Session-then s h.1 middle last items item h.2 h.3 reply h.5 k,
   rw h.6 (append_assoc (reply_text (answered_line first before.number) h.0) h.2 (reply_text (answered_line middle item.number) reply)),
   rw h.7 (or_assoc (is_refusal h.0) h.3 (is_refusal reply)),
 )

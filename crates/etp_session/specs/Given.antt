@@ -1,5 +1,5 @@
 -- What the parts of a session give: the reply to a command, and how much of it was written.
-use Rattle.std.specs.Prelude.{◌≡◌, ℕ, List, [], ◌++◌, Bool, true, false, ◌||◌, codes, slice_get}
+use Rattle.std.specs.Prelude.{◌≡◌, ◌≢◌, ℕ, ◌+◌, ◌-◌, ◌^◌, ◌≤◌, min, List, [], ◌++◌, Bool, true, false, ◌||◌, codes, slice_get}
 use Rattle.std.specs.declared.option.Option.{Option}
 use Rattle.std.specs.Io.KnownBytes.{Appends}
 use Rattle.std.specs.Prelude.{None, Some}
@@ -8,14 +8,14 @@ use Rattle.etp_io.specs.declared.lines.Next.{Next}
 use Rattle.etp_io.specs.declared.lines.Next.TheVariants.{Line, Long, End}
 use Rattle.etp_io.specs.Stream.{IsPrefix}
 use Rattle.etp_io.specs.Texts.{LineText, whole, too_long}
-use Rattle.etp_session.specs.Requests.{Request}
 use Rattle.etp_session.specs.declared.serving.Ending.{Ending}
 use Rattle.etp_session.specs.declared.serving.Ending.TheVariants.{Done, ReadFault, WriteFault, NoMemory, TooMuch}
 use Rattle.etp_ledger.specs.Files.{File}
 use Rattle.etp_session.specs.Texts.{Reply, refused, reply_text, is_refusal}
-use Rattle.etp_session.specs.States.{Opened, Opens, Filing, State}
+use Rattle.etp_session.specs.States.{Opened, Filing, State, stopped}
+use Rattle.etp_session.specs.Shelves.{KnownShelf, IsTooLong}
 use Rattle.etp_session.specs.Bodies.{FileReply}
-use Rattle.etp_session.specs.Replies.{OpenReply, FirstReply, Replies, Closes, answered_line}
+use Rattle.etp_session.specs.Replies.{Replies, Reaches, Closes, answered_line}
 
 -- the line that was read
 abbrev pub line_text : Next → List ℕ → LineText
@@ -55,62 +55,35 @@ pub record RefusesCited (n : ℕ) (text : List ℕ) (is_refused : Bool) (files :
 abbrev pub GivesFile : Opened → Filing → Bool → List ℕ → Bool → (List File → Type 0) → Type 0
 GivesFile o f closed text is_refused IsAfter = GivesThen f.number text is_refused (FileReply o f closed) IsAfter
 
--- the reply to a request once the laws stand has this text
-pub record GivesOpen (o : Opened) (n : ℕ) (request : Request) (text : List ℕ) (refused : Bool) (IsAfter : State → Type 0) : Type 0 where
+-- the reply has this text and leaves a state of which `IsAfter` holds
+pub record GivesState (n : ℕ) (text : List ℕ) (refused : Bool) (IsReply : Reply → State → Type 0) (IsAfter : State → Type 0) : Type 0 where
   pub reply : Reply
   pub after : State
-  pub replies : OpenReply o n request reply after
+  pub replies : IsReply reply after
   pub stands : IsAfter after
   pub text_is : text ≡ reply_text n reply
   pub refused_is : refused ≡ is_refusal reply
 
--- the reply to a request once the list of order 4 was opened for it has this text
-pub record GivesOpened (n : ℕ) (request : Request) (text : List ℕ) (refused : Bool) (IsAfter : State → Type 0) : Type 0 where
-  pub opened : Opened
-  pub opens : Opens 4 opened
-  pub gives : GivesOpen opened n request text refused IsAfter
+-- so has the reply to line n
+abbrev pub GivesReply : KnownShelf → State → ℕ → LineText → List ℕ → Bool → (State → Type 0) → Type 0
+GivesReply s before n line text is_refused IsAfter = GivesState (answered_line before n) text is_refused (Replies s before n line) IsAfter
 
--- the reply to a request where nothing stands yet has this text
-pub record GivesFirst (n : ℕ) (request : Request) (text : List ℕ) (refused : Bool) (IsAfter : State → Type 0) : Type 0 where
-  pub reply : Reply
-  pub after : State
-  pub replies : FirstReply n request reply after
-  pub stands : IsAfter after
-  pub text_is : text ≡ reply_text n reply
-  pub refused_is : refused ≡ is_refusal reply
-
--- the reply to line n has this text, and leaves a state of which `IsAfter` holds
-pub record GivesReply (before : State) (n : ℕ) (line : LineText) (text : List ℕ) (refused : Bool) (IsAfter : State → Type 0) : Type 0 where
-  pub reply : Reply
-  pub after : State
-  pub replies : Replies before n line reply after
-  pub stands : IsAfter after
-  pub text_is : text ≡ reply_text (answered_line before n) reply
-  pub refused_is : refused ≡ is_refusal reply
-
--- a reply was written
-pub record WritesReply (before : State) (n : ℕ) (line : LineText) (took_before took_after : Option (List ℕ)) (refused : Bool) (IsAfter : State → Type 0) : Type 0 where
-  pub text : List ℕ
-  pub written : Appends took_before took_after text
-  pub gives : GivesReply before n line text refused IsAfter
+-- the line loads a name that has too many bytes, of which one more than the limit were taken
+pub record LoadsLong (s : KnownShelf) (before : State) (line : LineText) (shelf_gave shelf_gave_after : ℕ) : Type 0 where
+  pub name : List ℕ
+  pub reaches : Reaches before line name
+  pub long : IsTooLong s name
+  pub risen : min (shelf_gave + (s.limit + 1)) (2 ^ 64 - 1) ≤ shelf_gave_after
 
 -- nothing of a reply was written
 pub record WritesNothing (took_before took_after : Option (List ℕ)) : Type 0 where
   pub written : Appends took_before took_after []
 
--- a prefix of a reply was written
-pub record WritesSome (before : State) (n : ℕ) (line : LineText) (took_before took_after : Option (List ℕ)) (IsAfter : State → Type 0) : Type 0 where
-  pub text : List ℕ
-  pub front : List ℕ
-  pub refused : Bool
-  pub written : Appends took_before took_after front
-  pub gives : GivesReply before n line text refused IsAfter
-  pub prefix : IsPrefix front text
-
 -- the reply at the end of the source has this text; `bad`: a line was refused before or is by it
 pub record GivesClose (last : State) (bad_before : Bool) (text : List ℕ) (bad : Bool) : Type 0 where
   pub reply : Reply
   pub closes : Closes last reply
+  pub all_there : last ≢ stopped
   pub text_is : text ≡ reply_text (answered_line last 0) reply
   pub bad_is : bad ≡ (bad_before || is_refusal reply)
 

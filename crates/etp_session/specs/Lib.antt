@@ -4,6 +4,7 @@ pub mod Texts
 pub mod RefusalTexts
 pub mod States
 pub mod Bodies
+pub mod Shelves
 pub mod LedgerReplies
 pub mod Replies
 pub mod Sessions
@@ -11,5 +12,6 @@ pub mod Ends
 pub mod Desks
 pub mod Filings
 pub mod Given
+pub mod Outcomes
 pub mod Arguments
 pub mod Listings

@@ -20,6 +20,8 @@ pub data Request : Type 0 where
   ask : ℕ → ℕ → Request
   -- a file, whose body lines follow; the one word that is to be its name, or none
   file : Option (List ℕ) → Request
+  -- a file whose body is on the shelf; the word that is to be its name there and here
+  load : List ℕ → Request
   -- the word that is to be the name of the file that is taken out
   withdraw : List ℕ → Request
   files : Request
@@ -29,7 +31,7 @@ pub data Request : Type 0 where
 
 -- the words of commands that aren't built yet
 abbrev pub unbuilt : List (List ℕ)
-unbuilt = codes "load" ∷ codes "why" ∷ codes "row" ∷ codes "class" ∷ codes "classes" ∷ codes "csv" ∷ codes "ledger"
+unbuilt = codes "why" ∷ codes "row" ∷ codes "class" ∷ codes "classes" ∷ codes "csv" ∷ codes "ledger"
     ∷ codes "profile" ∷ []
 
 -- the only word
@@ -81,6 +83,11 @@ abbrev pub withdraw_request : Option (List ℕ) → Request
 withdraw_request None = bad
 withdraw_request (Some word) = withdraw word
 
+-- `load` and a word
+abbrev pub load_request : Option (List ℕ) → Request
+load_request None = bad
+load_request (Some word) = load word
+
 -- a command of one word
 abbrev pub lone_request : Request → List (List ℕ) → Request
 lone_request request [] = request
@@ -91,10 +98,11 @@ abbrev pub ledger_request : List ℕ → List (List ℕ) → Request
 ledger_request word words =
     if is_word word (codes "ask") then ask_request words else
     (if is_word word (codes "file") then file (only_word words) else
+    (if is_word word (codes "load") then load_request (only_word words) else
     (if is_word word (codes "withdraw") then withdraw_request (only_word words) else
     (if is_word word (codes "files") then lone_request files words else
     (if is_word word (codes "counts") then lone_request counts words else
-    (if list_any (is_word word) unbuilt then not_built else bad)))))
+    (if list_any (is_word word) unbuilt then not_built else bad))))))
 
 abbrev pub request_of_words : List ℕ → List (List ℕ) → Request
 request_of_words line [] = blank

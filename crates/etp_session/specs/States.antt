@@ -25,9 +25,10 @@ pub record Filing : Type 0 where
   pub word : Option (List ℕ)
   pub lines : List GivenLine
 
--- before the first line that isn't blank nothing stands, then the laws and the files, and a body
--- while one is read
+-- Before the first line that isn't blank nothing stands, then the laws and the files, and a body
+-- while one is read. The text is over before a `load` whose name isn't there.
 pub data State : Type 0 where
   unopened : State
   over : Opened → State
   filing : Opened → Filing → State
+  stopped : State

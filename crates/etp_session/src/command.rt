@@ -1,7 +1,7 @@
 ghost use Rattle.std.specs.Prelude.{ℕ, ◌≡◌, ◌≤◌, ◌<◌, ◌++◌, ◌∷◌, ◌⊎◌, [], take, drop, length, IfSome, MatchOption, None, Some, not, true};
 ghost use Rattle.std.specs.List.{list_any};
 ghost use Rattle.etp_items.specs.Words.{words_of, skip_blanks, is_word};
-ghost use Rattle.etp_session.specs.Requests.{Request, request_of, only_number, only_word, law_request, dual_request, order_request, number_request, ask_request, pair_request, withdraw_request, lone_request, unbuilt};
+ghost use Rattle.etp_session.specs.Requests.{Request, request_of, only_number, only_word, law_request, dual_request, order_request, number_request, ask_request, pair_request, load_request, withdraw_request, lone_request, unbuilt};
 ghost use Rattle.etp_session.specs.Requests.{ledger_request};
 ghost use Rattle.etp_session.specs.Commands.{request_from, pair_from, operations_of, IsWithin};
 ghost use Rattle.std.specs.Option.{option_copied};
@@ -41,6 +41,7 @@ pub enum Command<'a> {
     Dual(u32),
     Ask(u32, u32),
     File(Option<&'a [u8]>),
+    Load(&'a [u8]),
     Withdraw(&'a [u8]),
     Files,
     Counts,
@@ -135,6 +136,16 @@ fn ask_command(pair: Option<(u32, u32)>) -> Command<'static>
     }
 }
 
+fn load_command(word: Option<&[u8]>) -> Command<'_>
+    ensures request { request_from result ≡ load_request (option_copied word.entry) }
+    ensures within { (most : ℕ) → IsWithin most result }
+{
+    match word {
+        Some(word) => Command::Load(word),
+        None => Command::Bad,
+    }
+}
+
 fn withdraw_command(word: Option<&[u8]>) -> Command<'_>
     ensures request { request_from result ≡ withdraw_request (option_copied word.entry) }
     ensures within { (most : ℕ) → IsWithin most result }
@@ -161,8 +172,7 @@ fn lone_command<'a>(command: Command<'a>, rest: &[u8]) -> Command<'a>
 fn is_unbuilt(word: &[u8]) -> bool
     ensures { result ≡ list_any (is_word word.now) unbuilt }
 {
-    is(word, "load")
-        || is(word, "why")
+    is(word, "why")
         || is(word, "row")
         || is(word, "class")
         || is(word, "classes")
@@ -207,6 +217,9 @@ fn ledger_command<'a>(word: &[u8], rest: &'a [u8]) -> Command<'a>
     }
     if is(word, "file") {
         return Command::File(only_word(rest));
+    }
+    if is(word, "load") {
+        return load_command(only_word(rest));
     }
     if is(word, "withdraw") {
         return withdraw_command(only_word(rest));

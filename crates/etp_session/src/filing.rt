@@ -1,5 +1,5 @@
 // The lines of a file's body, and the reply to the file.
-ghost use Rattle.std.specs.Prelude.{◌≡◌, ◌≢◌, ◌≤◌, ◌++◌, ◌∷◌, [], ℕ, Bool, true, false, length, codes, decimal, IfOk, IfSome, OnOk};
+ghost use Rattle.std.specs.Prelude.{◌≡◌, ◌≢◌, ◌≤◌, ◌++◌, ◌∷◌, [], ℕ, List, Some, Bool, true, false, length, codes, decimal, IfOk, IfSome, OnOk, MatchBool};
 ghost use Rattle.std.specs.Option.{option_copied};
 ghost use Rattle.std.specs.List.{list_any};
 ghost use Rattle.etp_items.specs.Words.{is_word};
@@ -12,6 +12,7 @@ ghost use Rattle.etp_session.specs.RefusalTexts.{body_refusal};
 ghost use Rattle.etp_session.specs.Bodies.{closes_body, refused_file, file_refusal, unbuilt_kinds, HasFreeName, names_unbuilt};
 ghost use Rattle.etp_session.specs.Given.{given_text, GivesFile};
 ghost use Rattle.etp_session.specs.Desks.{opened_of, Agrees, IsReading, IsPending, IsFiling};
+ghost use Rattle.etp_session.specs.Replies.{loading};
 ghost use Rattle.etp_session.specs.Filings.{begins_as, with_line, Leaves, fact_from, accepted_with};
 
 use crate::command::only_word;
@@ -119,6 +120,17 @@ fn pend(alloc: Global, opened: &Opened, word: Option<&[u8]>) -> Result<Pending, 
     }
     let reader = BodyReader::start(alloc, opened.laws.count())?;
     Ok(Pending::Blank(name, reader))
+}
+
+/// Whether the name of a file that was opened just now is a name and free, so that its body is read.
+pub(crate) fn has_free_name(filing: &Filing) -> bool
+    ensures { (o : Opened) (n : ℕ) (word : List ℕ) → IsFiling o filing.now (loading n word [])
+        → MatchBool result (HasFreeName o.ledger.files (Some word) word) (HasFreeName o.ledger.files (Some word) word → ⊥) }
+{
+    match filing.pending {
+        Pending::BadLine | Pending::NameTaken(_) => false,
+        _ => true,
+    }
 }
 
 /// The file with one body line more.

@@ -5,6 +5,7 @@ mod command;
 mod desk;
 mod filing;
 mod listing;
+mod loading;
 mod pairs;
 mod refusal_text;
 mod reply;

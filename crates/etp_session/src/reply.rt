@@ -5,18 +5,20 @@ ghost use Rattle.etp_term.specs.Terms.{tree_of};
 ghost use Rattle.etp_term.specs.Laws.{equation_of};
 ghost use Rattle.etp_laws.specs.LawLists.{entry_at};
 ghost use Rattle.etp_text.specs.Refusals.{side_limit};
-ghost use Rattle.etp_session.specs.Requests.{asked};
+ghost use Rattle.etp_session.specs.Requests.{asked, load};
 ghost use Rattle.etp_session.specs.Commands.{request_from, IsWithin, IsNoFile};
 ghost use Rattle.etp_session.specs.Texts.{reply_text, is_refusal, refused};
-ghost use Rattle.etp_session.specs.Replies.{law_line, law_reply, NumberedReply, NumberReply, DualReply, Answers, FirstReply};
-ghost use Rattle.etp_session.specs.States.{State, unopened};
-ghost use Rattle.etp_session.specs.Given.{given_text, Gives, GivesThen, GivesOpen, GivesOpened, GivesFirst, GivesReply, GivesClose};
+ghost use Rattle.etp_session.specs.Replies.{law_line, law_reply, NumberedReply, NumberReply, DualReply, Answers, LoadReply, OpenReply, FirstReply};
+ghost use Rattle.etp_session.specs.States.{State};
+ghost use Rattle.etp_session.specs.Given.{given_text, Gives, GivesThen, GivesClose};
 ghost use Rattle.etp_session.specs.Desks.{opened_of, Agrees, IsStage, IsDesk, IsSound};
 ghost use Rattle.etp_session.specs.Filings.{Leaves};
+ghost use Rattle.etp_session.specs.Shelves.{KnownShelf};
+ghost use Rattle.etp_session.specs.Outcomes.{IsLoad, IsFirstLoad, OpenedReply, IsOutcome, LineOutcome};
 
 use crate::command::{Command, ListOrder, read_command};
 use crate::desk::{Desk, Filing, Opened};
-use crate::filing::{answer_file, closes_body, open_file, take_line};
+use crate::filing::{answer_file, closes_body, has_free_name, open_file, take_line};
 use crate::pairs::{answer_counts, answer_files, answer_pair, answer_withdrawal};
 use etp_laws::{Laws, Numbered};
 use etp_term::Law;
@@ -149,7 +151,7 @@ fn answer(
         Command::Number(spelling) => answer_number(alloc, text, laws, spelling, line),
         Command::Dual(n) => answer_dual(text, laws, n, line),
         Command::Ask(e, f) => answer_pair(text, opened, e, f, line),
-        Command::File(_) => unreachable!(),
+        Command::File(_) | Command::Load(_) => unreachable!(),
         Command::Withdraw(word) => answer_withdrawal(alloc, text, opened, word, line),
         Command::Files => answer_files(text, &opened.ledger),
         Command::Counts => answer_counts(text, opened, line),
@@ -158,95 +160,112 @@ fn answer(
     }
 }
 
-/// What a command leaves: a file whose body is to be read, and whether the command was refused.
+/// What a line comes to.
 #[derive(Drop)]
-struct Done {
-    filing: Option<Filing>,
-    refused: bool,
+pub(crate) enum Outcome<'a> {
+    /// Its reply was written; whether that is a refusal.
+    Replied(bool),
+    /// A file is read, whose next body line follows.
+    Reads(Filing),
+    /// A file is to be read from the shelf, under this name.
+    Loads(&'a [u8], Filing),
 }
 
 // Obeys a command once the laws stand.
-fn obey(
+fn obey<'a>(
     alloc: Global,
     text: &mut Text,
     opened: &mut Opened,
-    command: Command<'_>,
+    command: Command<'a>,
     line: u64,
-) -> Result<Done, AllocError>
+) -> Result<Outcome<'a>, AllocError>
     requires empty { text.old ≡ [] }
     requires agrees { Agrees opened.old }
     requires short { IsWithin 4096 command }
-    ensures gives { IfOk result (λ done. GivesOpen (opened_of opened.old) line (request_from command.entry) text.new done.refused (IsStage (Some opened.new) done.filing)) }
+    ensures gives { IfOk result (λ outcome. (s : KnownShelf) → IsOutcome s line text.new (Some opened.new) (OpenReply s (opened_of opened.old) line (request_from command.entry))
+        (IsLoad (opened_of opened.old) (request_from command.entry)) outcome) }
     ensures agrees { OnOk result (Agrees opened.new) }
 {
-    if let Command::File(word) = command {
-        let filing = open_file(alloc, opened, word, line)?;
-        return Ok(Done {
-            filing: Some(filing),
-            refused: false,
-        });
+    match command {
+        Command::File(word) => {
+            let filing = open_file(alloc, opened, word, line)?;
+            Ok(Outcome::Reads(filing))
+        }
+        Command::Load(word) => open_load(alloc, text, opened, word, line),
+        _ => {
+            let refused = answer(alloc, text, opened, command, line)?;
+            Ok(Outcome::Replied(refused))
+        }
     }
-    let refused = answer(alloc, text, opened, command, line)?;
-    Ok(Done {
-        filing: None,
-        refused,
-    })
 }
 
-/// What the first command leaves: the laws with the files, where it isn't blank, and as any other.
-#[derive(Drop)]
-struct First {
-    opened: Option<Opened>,
-    filing: Option<Filing>,
-    refused: bool,
+// Opens a file that is to be read from the shelf, or refuses it for its name.
+fn open_load<'a>(
+    alloc: Global,
+    text: &mut Text,
+    opened: &mut Opened,
+    word: &'a [u8],
+    line: u64,
+) -> Result<Outcome<'a>, AllocError>
+    requires empty { text.old ≡ [] }
+    requires agrees { Agrees opened.old }
+    ensures gives { IfOk result (λ outcome. (s : KnownShelf) → IsOutcome s line text.new (Some opened.new) (LoadReply s (opened_of opened.old) line word.now)
+        (IsLoad (opened_of opened.old) (load word.now)) outcome) }
+    ensures agrees { OnOk result (Agrees opened.new) }
+{
+    let filing = open_file(alloc, opened, Some(word), line)?;
+    if has_free_name(&filing) {
+        return Ok(Outcome::Loads(word, filing));
+    }
+    let refused = answer_file(alloc, text, opened, filing, true)?;
+    Ok(Outcome::Replied(refused))
 }
 
 // Obeys a command where nothing stands yet. The first that isn't blank opens the list of laws.
-fn obey_first(
+fn obey_first<'a>(
     alloc: Global,
     text: &mut Text,
-    command: Command<'_>,
+    desk: &mut Desk,
+    command: Command<'a>,
     line: u64,
-) -> Result<First, AllocError>
+) -> Result<Outcome<'a>, AllocError>
     requires empty { text.old ≡ [] }
+    requires unopened { desk.old.opened ≡ None }
     requires short { IsWithin 4096 command }
-    ensures gives { IfOk result (λ first. GivesFirst line (request_from command.entry) text.new first.refused (IsStage first.opened first.filing)) }
-    ensures agrees { IfOk result (λ first. IfSome first.opened Agrees) }
+    ensures gives { IfOk result (λ outcome. (s : KnownShelf) → IsOutcome s line text.new desk.new.opened (FirstReply s line (request_from command.entry))
+        (IsFirstLoad (request_from command.entry)) outcome) }
+    ensures agrees { OnOk result (IfSome desk.new.opened Agrees) }
+    ensures filing { desk.new.filing ≡ desk.old.filing }
 {
     match command {
-        Command::Blank => Ok(First {
-            opened: None,
-            filing: None,
-            refused: false,
-        }),
-        Command::Order(order) => Ok(First {
-            opened: Some(Opened::start(alloc, order)?),
-            filing: None,
-            refused: false,
-        }),
-        _ => open_and_obey(alloc, text, command, line),
+        Command::Blank => Ok(Outcome::Replied(false)),
+        Command::Order(order) => {
+            desk.opened = Some(Opened::start(alloc, order)?);
+            Ok(Outcome::Replied(false))
+        }
+        _ => open_and_obey(alloc, text, desk, command, line),
     }
 }
 
 // Opens the list of order 4 and obeys a command.
-fn open_and_obey(
+fn open_and_obey<'a>(
     alloc: Global,
     text: &mut Text,
-    command: Command<'_>,
+    desk: &mut Desk,
+    command: Command<'a>,
     line: u64,
-) -> Result<First, AllocError>
+) -> Result<Outcome<'a>, AllocError>
     requires empty { text.old ≡ [] }
     requires short { IsWithin 4096 command }
-    ensures gives { IfOk result (λ first. GivesOpened line (request_from command.entry) text.new first.refused (IsStage first.opened first.filing)) }
-    ensures agrees { IfOk result (λ first. IfSome first.opened Agrees) }
+    ensures gives { IfOk result (λ outcome. (s : KnownShelf) → IsOutcome s line text.new desk.new.opened (OpenedReply s line (request_from command.entry))
+        (IsFirstLoad (request_from command.entry)) outcome) }
+    ensures agrees { OnOk result (IfSome desk.new.opened Agrees) }
+    ensures filing { desk.new.filing ≡ desk.old.filing }
 {
     let mut opened = Opened::start(alloc, ListOrder::Four)?;
-    let Done { filing, refused } = obey(alloc, text, &mut opened, command, line)?;
-    Ok(First {
-        opened: Some(opened),
-        filing,
-        refused,
-    })
+    let outcome = obey(alloc, text, &mut opened, command, line)?;
+    desk.opened = Some(opened);
+    Ok(outcome)
 }
 
 // What the line asks; a line that is too long is never looked at.
@@ -261,97 +280,73 @@ fn command_of(line: Option<&[u8]>) -> Command<'_>
     }
 }
 
-// Writes the reply to a line where no body is read.
-fn respond_to_command(
+// Obeys a line where no body is read.
+fn respond_to_command<'a>(
     alloc: Global,
     text: &mut Text,
     desk: &mut Desk,
-    line: Option<&[u8]>,
+    line: Option<&'a [u8]>,
     number: u64,
-) -> Result<bool, AllocError>
+) -> Result<Outcome<'a>, AllocError>
     requires empty { text.old ≡ [] }
     requires agrees { IfSome desk.old.opened Agrees }
     requires no_body { desk.old.filing ≡ None }
     requires short { IfSome line (λ line. length line.now ≤ 4096) }
-    ensures gives { IfOk result (λ refusal. (state : State) → IsDesk desk.old state → GivesReply state number (given_text line.entry) text.new refusal (IsDesk desk.new)) }
+    ensures gives { IfOk result (λ outcome. (s : KnownShelf) (state : State) → IsDesk desk.old state → LineOutcome s state number (given_text line.entry) text.new desk.new.opened outcome) }
     ensures agrees { OnOk result (IfSome desk.new.opened Agrees) }
+    ensures no_body { desk.new.filing ≡ None }
 {
     let command = command_of(line);
     match &mut desk.opened {
-        Some(opened) => {
-            let Done { filing, refused } = obey(alloc, text, opened, command, number)?;
-            desk.filing = filing;
-            Ok(refused)
-        }
-        None => respond_first(alloc, text, desk, command, number),
+        Some(opened) => obey(alloc, text, opened, command, number),
+        None => obey_first(alloc, text, desk, command, number),
     }
 }
 
-// Writes the reply to a command where nothing stands yet.
-fn respond_first(
-    alloc: Global,
-    text: &mut Text,
-    desk: &mut Desk,
-    command: Command<'_>,
-    number: u64,
-) -> Result<bool, AllocError>
-    requires empty { text.old ≡ [] }
-    requires short { IsWithin 4096 command }
-    ensures gives { IfOk result (λ refusal. GivesFirst number (request_from command.entry) text.new refusal (IsDesk desk.new)) }
-    ensures agrees { OnOk result (IfSome desk.new.opened Agrees) }
-{
-    let First {
-        opened,
-        filing,
-        refused,
-    } = obey_first(alloc, text, command, number)?;
-    *desk = Desk { opened, filing };
-    Ok(refused)
-}
-
-// Writes the reply to a line of a file's body.
-fn respond_in_body(
+// Takes a line of a file's body, or writes the reply to the file that it closes.
+fn respond_in_body<'a>(
     alloc: Global,
     text: &mut Text,
     desk: &mut Desk,
     filing: Filing,
-    line: Option<&[u8]>,
-    number: u64,
-) -> Result<bool, AllocError>
+    line: Option<&'a [u8]>,
+) -> Result<Outcome<'a>, AllocError>
     requires empty { text.old ≡ [] }
     requires agrees { IfSome desk.old.opened Agrees }
     requires stands { (state : State) × IsStage desk.old.opened (Some filing) state }
-    requires taken { desk.old.filing ≡ None }
     requires short { IfSome line (λ line. length line.now ≤ 4096) }
-    ensures gives { IfOk result (λ refusal. (state : State) → IsStage desk.old.opened (Some filing) state → GivesReply state number (given_text line.entry) text.new refusal (IsDesk desk.new)) }
+    ensures gives { IfOk result (λ outcome. (s : KnownShelf) (state : State) (number : ℕ) → IsStage desk.old.opened (Some filing) state
+        → LineOutcome s state number (given_text line.entry) text.new desk.new.opened outcome) }
     ensures agrees { OnOk result (IfSome desk.new.opened Agrees) }
+    ensures no_body { desk.new.filing ≡ desk.old.filing }
 {
     let Some(opened) = &mut desk.opened else {
-        return Ok(false);
+        return Ok(Outcome::Replied(false));
     };
     if closes_body(line) {
-        return answer_file(alloc, text, opened, filing, true);
+        let refused = answer_file(alloc, text, opened, filing, true)?;
+        return Ok(Outcome::Replied(refused));
     }
-    desk.filing = Some(take_line(filing, line)?);
-    Ok(false)
+    Ok(Outcome::Reads(take_line(filing, line)?))
 }
 
-/// Writes the reply to a line, which is None where it is too long, and answers whether it is a refusal.
-pub(crate) fn respond(
+/// Obeys a line, which is None where it is too long.
+pub(crate) fn respond<'a>(
     alloc: Global,
     text: &mut Text,
     desk: &mut Desk,
-    line: Option<&[u8]>,
+    line: Option<&'a [u8]>,
     number: u64,
-) -> Result<bool, AllocError>
+) -> Result<Outcome<'a>, AllocError>
     requires empty { text.old ≡ [] }
     requires sound { IsSound desk.old }
     requires short { IfSome line (λ line. length line.now ≤ 4096) }
-    ensures gives { IfOk result (λ refusal. (state : State) → IsDesk desk.old state → GivesReply state number (given_text line.entry) text.new refusal (IsDesk desk.new)) }
+    ensures gives { IfOk result (λ outcome. (s : KnownShelf) (state : State) → IsDesk desk.old state → LineOutcome s state number (given_text line.entry) text.new desk.new.opened outcome) }
     ensures agrees { OnOk result (IfSome desk.new.opened Agrees) }
+    ensures no_body { desk.new.filing ≡ None }
 {
     match desk.filing.take() {
-        Some(filing) => respond_in_body(alloc, text, desk, filing, line, number),
+        Some(filing) => respond_in_body(alloc, text, desk, filing, line),
         None => respond_to_command(alloc, text, desk, line, number),
     }
 }

@@ -1,12 +1,13 @@
-ghost use Rattle.std.specs.Prelude.{◌≡◌, ◌↔◌, IsTrue, ◌++◌, [], ◌+◌, ◌-◌, ◌≤◌, ℕ, length, IfOk, IfErr, IfSome, OnOk, IsErrOf, true, false, ◌⊎◌, ◌||◌};
+ghost use Rattle.std.specs.Prelude.{◌≡◌, ◌↔◌, IsTrue, ◌++◌, [], ◌+◌, ◌-◌, ◌≤◌, ℕ, length, IfSome, ◌⊎◌, ◌||◌, true, false};
 ghost use Rattle.etp_io.specs.Causes.{Rose};
 ghost use Rattle.etp_session.specs.States.{State};
-ghost use Rattle.etp_session.specs.Desks.{Agrees, IsDesk, IsSound};
-ghost use Rattle.etp_session.specs.Given.{line_text, given_text, WritesReply, WritesNothing, WritesSome, WritesClose, WritesSomeOfClose, IsDone, IsCut, IsEnd, status_of};
-ghost use Rattle.etp_session.specs.Ends.{EndsWell, WritesPrefix, WritesWholeLines, Takes, TakesWithin, StopsAtFault};
+ghost use Rattle.etp_session.specs.Desks.{IsDesk, IsSound};
+ghost use Rattle.etp_session.specs.Given.{line_text, given_text, WritesNothing, WritesClose, WritesSomeOfClose, IsDone, IsCut, IsEnd, status_of};
+ghost use Rattle.etp_session.specs.Ends.{EndsWell, WritesPrefix, WritesWholeLines, Takes, TakesWithin, StopsAtFault, StopsAtName, StopsAtLong};
 
 use crate::desk::Desk;
-use crate::reply::{respond, respond_at_end};
+use crate::loading::reply;
+use crate::reply::respond_at_end;
 use etp_io::{InFault, Lines, Next, Shelf, Sink, Source, write_all};
 use etp_text::Text;
 use std::alloc::Global;
@@ -34,7 +35,8 @@ fn status(ending: Ending) -> u8
     }
 }
 
-fn is_end(next: Next) -> bool
+/// Whether nothing was left.
+pub(crate) fn is_end(next: Next) -> bool
     ensures { IsTrue result ↔ (next ≡ Next.End) }
 {
     match next {
@@ -43,8 +45,8 @@ fn is_end(next: Next) -> bool
     }
 }
 
-// The line that was read, or None for one that is too long.
-fn line_read(next: Next, lines: &Lines) -> Option<&[u8]>
+/// The line that was read, or None for one that is too long.
+pub(crate) fn line_read(next: Next, lines: &Lines) -> Option<&[u8]>
     requires more { next ≡ Next.End → ⊥ }
     requires short { length lines.now.line ≤ 4096 }
     ensures text { given_text result ≡ line_text next lines.now.line }
@@ -54,35 +56,6 @@ fn line_read(next: Next, lines: &Lines) -> Option<&[u8]>
         Next::Line => Some(lines.line()),
         Next::Long => None,
         Next::End => unreachable!(),
-    }
-}
-
-// Answers a line, and says whether it was refused.
-fn step<K: Sink>(
-    alloc: Global,
-    desk: &mut Desk,
-    text: &mut Text,
-    line: Option<&[u8]>,
-    number: u64,
-    sink: &mut K,
-) -> Result<bool, Ending>
-    requires short { IfSome line (λ line. length line.now ≤ 4096) }
-    requires sound { IsSound desk.old }
-    ensures agrees { OnOk result (IfSome desk.new.opened Agrees) }
-    ensures ok { IfOk result (λ refused. (state : State) → IsDesk desk.old state → WritesReply state number (given_text line.entry) (K.took sink.old) (K.took sink.new) refused (IsDesk desk.new)) }
-    ensures memory { IsErrOf result Ending.NoMemory → WritesNothing (K.took sink.old) (K.took sink.new) }
-    ensures write { IsErrOf result Ending.WriteFault → (state : State) → IsDesk desk.old state → WritesSome state number (given_text line.entry) (K.took sink.old) (K.took sink.new) (IsDesk desk.new) }
-    ensures cause { IsErrOf result Ending.WriteFault → Rose (K.faults sink.old) (K.faults sink.new) }
-    ensures later { K.faults sink.old ≤ K.faults sink.new }
-    ensures errors { IfErr result (λ e. (e ≡ Ending.NoMemory) ⊎ (e ≡ Ending.WriteFault)) }
-{
-    text.clear();
-    let Ok(refused) = respond(alloc, text, desk, line, number) else {
-        return Err(Ending::NoMemory);
-    };
-    match write_all(sink, text.as_slice()) {
-        Ok(()) => Ok(refused),
-        Err(_) => Err(Ending::WriteFault),
     }
 }
 
@@ -119,18 +92,30 @@ fn either(a: bool, b: bool) -> bool
 }
 
 // Serves a session to its end.
-fn serve<S: Source, K: Sink>(alloc: Global, limit: u64, source: &mut S, sink: &mut K) -> Ending
+fn serve<S: Source, K: Sink, H: Shelf>(
+    alloc: Global,
+    limit: u64,
+    source: &mut S,
+    sink: &mut K,
+    shelf: &mut H,
+) -> Ending
     requires { limit ≤ 134217728 }
 
-    ensures done { IsDone result (λ refused. EndsWell (S.left source.old) (S.left source.new) (K.took sink.old) (K.took sink.new) (S.last source.new) refused) }
-    ensures cut { IsCut result (WritesPrefix (S.left source.old) (K.took sink.old) (K.took sink.new)) }
+    ensures done { IsDone result (λ refused. EndsWell (record { limit = limit; keeps = H.keeps shelf.old }) (S.left source.old) (S.left source.new) (K.took sink.old) (K.took sink.new) (S.last source.new) refused) }
+    ensures cut { IsCut result (WritesPrefix (record { limit = limit; keeps = H.keeps shelf.old }) (S.left source.old) (K.took sink.old) (K.took sink.new)) }
 
-    ensures read { result ≡ Ending.ReadFault → Rose (S.faults source.old) (S.faults source.new) }
-    ensures read_end { result ≡ Ending.ReadFault → StopsAtFault (S.left source.old) (S.left source.new) (K.took sink.old) (K.took sink.new) (S.given source.old) (S.given source.new) limit }
+    ensures read { result ≡ Ending.ReadFault
+        → (Rose (S.faults source.old) (S.faults source.new)
+        × StopsAtFault (record { limit = limit; keeps = H.keeps shelf.old }) (S.left source.old) (S.left source.new) (K.took sink.old) (K.took sink.new) (S.given source.old) (S.given source.new))
+        ⊎ (Rose (H.faults shelf.old) (H.faults shelf.new)
+        × StopsAtName (record { limit = limit; keeps = H.keeps shelf.old }) (S.left source.old) (S.left source.new) (K.took sink.old) (K.took sink.new) (S.given source.old) (S.given source.new) (H.failed_name shelf.new)) }
     ensures write { result ≡ Ending.WriteFault → Rose (K.faults sink.old) (K.faults sink.new) }
-    ensures too_much { result ≡ Ending.TooMuch → Takes (S.left source.old) (S.left source.new) (S.given source.old) (S.given source.new) (limit + 1) }
-    ensures too_much_end { result ≡ Ending.TooMuch → WritesWholeLines (S.left source.old) (K.took sink.old) (K.took sink.new) (limit + 1 - S.last source.new) }
+    ensures too_much { result ≡ Ending.TooMuch
+        → (Takes (S.left source.old) (S.left source.new) (S.given source.old) (S.given source.new) (limit + 1)
+        × WritesWholeLines (record { limit = limit; keeps = H.keeps shelf.old }) (S.left source.old) (K.took sink.old) (K.took sink.new) (limit + 1 - S.last source.new))
+        ⊎ StopsAtLong (record { limit = limit; keeps = H.keeps shelf.old }) (S.left source.old) (S.left source.new) (K.took sink.old) (K.took sink.new) (S.given source.old) (S.given source.new) (H.given shelf.old) (H.given shelf.new) }
     ensures within { (result ≡ Ending.TooMuch → ⊥) → TakesWithin (S.left source.old) (S.left source.new) (S.given source.old) (S.given source.new) limit }
+    ensures keeps { H.keeps shelf.new ≡ H.keeps shelf.old }
 {
     let Ok(mut lines) = Lines::start(alloc, limit) else {
         return Ending::NoMemory;
@@ -148,19 +133,33 @@ fn serve<S: Source, K: Sink>(alloc: Global, limit: u64, source: &mut S, sink: &m
             return close(alloc, &mut desk, &mut text, refused, sink);
         }
         let line = line_read(next, &lines);
-        match step(alloc, &mut desk, &mut text, line, lines.number(), sink) {
+        text.clear();
+        match reply(
+            alloc,
+            limit,
+            &mut text,
+            &mut desk,
+            line,
+            lines.number(),
+            shelf,
+        ) {
             Ok(also) => refused = either(refused, also),
             Err(ending) => return ending,
+        }
+        match write_all(sink, text.as_slice()) {
+            Ok(()) => {}
+            Err(_) => return Ending::WriteFault,
         }
     }
 }
 
-/// Serves a session: answers the commands of the source, line by line, on the sink, and answers
-/// the status. `limit` is the most bytes of a stream.
+/// Serves a session: answers the commands of the source, line by line, on the sink, with the bodies
+/// of the files that it loads from the shelf, and answers the status. `limit` is the most bytes of
+/// the source, and of a name on the shelf.
 ///
 /// The status is 0 where all was read and written and no line was refused, 1 where one was,
 /// 3 where a read failed, 4 where a write failed, 5 for want of memory, which may come at any
-/// time, and 6 where more than `limit` bytes were taken.
+/// time, and 6 where more than `limit` bytes of the source or of a name were taken.
 pub fn session<S: Source, K: Sink, H: Shelf>(
     alloc: Global,
     limit: u64,
@@ -170,27 +169,33 @@ pub fn session<S: Source, K: Sink, H: Shelf>(
 ) -> u8
     requires { limit ≤ 134217728 }
 
-    // At 0 and 1 the source was read to its end and the whole text was written.
-    ensures well { result ≡ 0 → EndsWell (S.left source.old) (S.left source.new) (K.took sink.old) (K.took sink.new) (S.last source.new) false }
-    ensures refused { result ≡ 1 → EndsWell (S.left source.old) (S.left source.new) (K.took sink.old) (K.took sink.new) (S.last source.new) true }
+    // At 0 and 1 the source and each name that was loaded were read to their ends and the whole text was written.
+    ensures well { result ≡ 0 → EndsWell (record { limit = limit; keeps = H.keeps shelf.old }) (S.left source.old) (S.left source.new) (K.took sink.old) (K.took sink.new) (S.last source.new) false }
+    ensures refused { result ≡ 1 → EndsWell (record { limit = limit; keeps = H.keeps shelf.old }) (S.left source.old) (S.left source.new) (K.took sink.old) (K.took sink.new) (S.last source.new) true }
 
-    // At 3 a read failed, and the lines that stand whole in the bytes taken were answered.
-    ensures read { result ≡ 3 → Rose (S.faults source.old) (S.faults source.new) }
-    ensures read_end { result ≡ 3 → StopsAtFault (S.left source.old) (S.left source.new) (K.took sink.old) (K.took sink.new) (S.given source.old) (S.given source.new) limit }
+    // At 3 a read failed: one of the source, and the lines that stand whole in the bytes taken were answered;
+    // or one of the shelf in a `load` of the name that failed last, and the lines before it were.
+    ensures read { result ≡ 3
+        → (Rose (S.faults source.old) (S.faults source.new)
+        × StopsAtFault (record { limit = limit; keeps = H.keeps shelf.old }) (S.left source.old) (S.left source.new) (K.took sink.old) (K.took sink.new) (S.given source.old) (S.given source.new))
+        ⊎ (Rose (H.faults shelf.old) (H.faults shelf.new)
+        × StopsAtName (record { limit = limit; keeps = H.keeps shelf.old }) (S.left source.old) (S.left source.new) (K.took sink.old) (K.took sink.new) (S.given source.old) (S.given source.new) (H.failed_name shelf.new)) }
 
     // At 4 a write failed; at 4 and 5 a prefix of the text was written.
     ensures write { result ≡ 4 → Rose (K.faults sink.old) (K.faults sink.new) }
-    ensures write_end { result ≡ 4 → WritesPrefix (S.left source.old) (K.took sink.old) (K.took sink.new) }
-    ensures memory_end { result ≡ 5 → WritesPrefix (S.left source.old) (K.took sink.old) (K.took sink.new) }
+    ensures write_end { result ≡ 4 → WritesPrefix (record { limit = limit; keeps = H.keeps shelf.old }) (S.left source.old) (K.took sink.old) (K.took sink.new) }
+    ensures memory_end { result ≡ 5 → WritesPrefix (record { limit = limit; keeps = H.keeps shelf.old }) (S.left source.old) (K.took sink.old) (K.took sink.new) }
 
-    // At 6 one byte more than the limit was taken, and the lines that stand whole in the bytes before the last read were answered.
-    ensures too_much { result ≡ 6 → Takes (S.left source.old) (S.left source.new) (S.given source.old) (S.given source.new) (limit + 1) }
-    ensures too_much_end { result ≡ 6 → WritesWholeLines (S.left source.old) (K.took sink.old) (K.took sink.new) (limit + 1 - S.last source.new) }
+    // At 6 one byte more than the limit was taken: of the source, and the lines that stand whole in the bytes before the last
+    // read were answered; or of a name in a `load`, and the lines before it were.
+    ensures too_much { result ≡ 6
+        → (Takes (S.left source.old) (S.left source.new) (S.given source.old) (S.given source.new) (limit + 1)
+        × WritesWholeLines (record { limit = limit; keeps = H.keeps shelf.old }) (S.left source.old) (K.took sink.old) (K.took sink.new) (limit + 1 - S.last source.new))
+        ⊎ StopsAtLong (record { limit = limit; keeps = H.keeps shelf.old }) (S.left source.old) (S.left source.new) (K.took sink.old) (K.took sink.new) (S.given source.old) (S.given source.new) (H.given shelf.old) (H.given shelf.new) }
     ensures within { (result ≡ 6 → ⊥) → TakesWithin (S.left source.old) (S.left source.new) (S.given source.old) (S.given source.new) limit }
 
     ensures statuses { (result ≤ 6) × (result ≡ 2 → ⊥) }
-    ensures shelf { shelf.new ≡ shelf.old }
+    ensures keeps { H.keeps shelf.new ≡ H.keeps shelf.old }
 {
-    let _shelf = shelf;
-    status(serve(alloc, limit, source, sink))
+    status(serve(alloc, limit, source, sink, shelf))
 }

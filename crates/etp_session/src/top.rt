@@ -4,8 +4,10 @@ ghost use Rattle.etp_io.specs.Causes.{Rose};
 ghost use Rattle.etp_session.specs.Arguments.{task_of, IsTask};
 ghost use Rattle.etp_session.specs.Commands.{operations_of};
 ghost use Rattle.etp_session.specs.Listings.{ListsLaws};
-ghost use Rattle.etp_session.specs.Sessions.{IsSession};
-ghost use Rattle.etp_session.specs.Ends.{EndsWell, WritesPrefix, WritesWholeLines, Takes, TakesWithin, StopsAtFault};
+ghost use Rattle.etp_session.specs.Sessions.{IsSession, IsWholeSession};
+ghost use Rattle.etp_io.specs.Kept.{kept_or_empty};
+ghost use Rattle.std.specs.declared.option.Option.{Option};
+ghost use Rattle.etp_session.specs.Ends.{EndsWell, WritesPrefix, WritesWholeLines, Takes, TakesWithin, StopsAtFault, StopsAtName, StopsAtLong};
 
 use crate::command::ListOrder;
 use crate::listing::list_laws;
@@ -72,30 +74,37 @@ pub fn run<S: Source, K: Sink, H: Shelf>(
     ensures words { result ≡ 2 ↔ (task_of (map string_bytes words.now) ≡ Task.Unknown) }
     ensures untouched { result ≡ 2 → (source.new ≡ source.old) × (sink.new ≡ sink.old) × (shelf.new ≡ shelf.old) }
 
-    // A session, at 0 and 1: the source was read to its end and the whole text was written.
-    ensures well { IsTask (map string_bytes words.now) Task.Session → result ≡ 0 → EndsWell (S.left source.old) (S.left source.new) (K.took sink.old) (K.took sink.new) (S.last source.new) false }
-    ensures refused { result ≡ 1 → EndsWell (S.left source.old) (S.left source.new) (K.took sink.old) (K.took sink.new) (S.last source.new) true }
+    // A session, at 0 and 1: the source and each name that was loaded were read to their ends and the whole text was written.
+    ensures well { IsTask (map string_bytes words.now) Task.Session → result ≡ 0 → EndsWell (record { limit = 134217728; keeps = H.keeps shelf.old }) (S.left source.old) (S.left source.new) (K.took sink.old) (K.took sink.new) (S.last source.new) false }
+    ensures refused { result ≡ 1 → EndsWell (record { limit = 134217728; keeps = H.keeps shelf.old }) (S.left source.old) (S.left source.new) (K.took sink.old) (K.took sink.new) (S.last source.new) true }
 
-    // At 3 a read failed, and the lines that stand whole in the bytes taken were answered.
-    ensures read { result ≡ 3 → Rose (S.faults source.old) (S.faults source.new) }
-    ensures read_end { result ≡ 3 → StopsAtFault (S.left source.old) (S.left source.new) (K.took sink.old) (K.took sink.new) (S.given source.old) (S.given source.new) 134217728 }
+    // At 3 a read failed: one of the source, and the lines that stand whole in the bytes taken were answered;
+    // or one of the shelf in a `load` of the name that failed last, and the lines before it were.
+    ensures read { result ≡ 3
+        → (Rose (S.faults source.old) (S.faults source.new)
+        × StopsAtFault (record { limit = 134217728; keeps = H.keeps shelf.old }) (S.left source.old) (S.left source.new) (K.took sink.old) (K.took sink.new) (S.given source.old) (S.given source.new))
+        ⊎ (Rose (H.faults shelf.old) (H.faults shelf.new)
+        × StopsAtName (record { limit = 134217728; keeps = H.keeps shelf.old }) (S.left source.old) (S.left source.new) (K.took sink.old) (K.took sink.new) (S.given source.old) (S.given source.new) (H.failed_name shelf.new)) }
 
     // At 4 a write failed; in a session a prefix of the text was written at 4 and 5.
     ensures write { result ≡ 4 → Rose (K.faults sink.old) (K.faults sink.new) }
-    ensures write_end { IsTask (map string_bytes words.now) Task.Session → result ≡ 4 → WritesPrefix (S.left source.old) (K.took sink.old) (K.took sink.new) }
-    ensures memory_end { IsTask (map string_bytes words.now) Task.Session → result ≡ 5 → WritesPrefix (S.left source.old) (K.took sink.old) (K.took sink.new) }
+    ensures write_end { IsTask (map string_bytes words.now) Task.Session → result ≡ 4 → WritesPrefix (record { limit = 134217728; keeps = H.keeps shelf.old }) (S.left source.old) (K.took sink.old) (K.took sink.new) }
+    ensures memory_end { IsTask (map string_bytes words.now) Task.Session → result ≡ 5 → WritesPrefix (record { limit = 134217728; keeps = H.keeps shelf.old }) (S.left source.old) (K.took sink.old) (K.took sink.new) }
 
-    // At 6 one byte more than the limit was taken, and the lines that stand whole in the bytes before the last read were answered.
-    ensures too_much { result ≡ 6 → Takes (S.left source.old) (S.left source.new) (S.given source.old) (S.given source.new) 134217729 }
-    ensures too_much_end { result ≡ 6 → WritesWholeLines (S.left source.old) (K.took sink.old) (K.took sink.new) (134217729 - S.last source.new) }
+    // At 6 one byte more than the limit was taken: of the source, and the lines that stand whole in the bytes before the last
+    // read were answered; or of a name in a `load`, and the lines before it were.
+    ensures too_much { result ≡ 6
+        → (Takes (S.left source.old) (S.left source.new) (S.given source.old) (S.given source.new) 134217729
+        × WritesWholeLines (record { limit = 134217728; keeps = H.keeps shelf.old }) (S.left source.old) (K.took sink.old) (K.took sink.new) (134217729 - S.last source.new))
+        ⊎ StopsAtLong (record { limit = 134217728; keeps = H.keeps shelf.old }) (S.left source.old) (S.left source.new) (K.took sink.old) (K.took sink.new) (S.given source.old) (S.given source.new) (H.given shelf.old) (H.given shelf.new) }
     ensures within { IsTask (map string_bytes words.now) Task.Session → (result ≡ 6 → ⊥) → TakesWithin (S.left source.old) (S.left source.new) (S.given source.old) (S.given source.new) 134217728 }
 
     // The list of laws: at 0 all was written, at 4 and 5 a prefix, and nothing was read.
     ensures laws { (order : ListOrder) → IsTask (map string_bytes words.now) (Task.Laws order) → ListsLaws (operations_of order) (K.took sink.old) (K.took sink.new) result }
-    ensures unread { (order : ListOrder) → IsTask (map string_bytes words.now) (Task.Laws order) → source.new ≡ source.old }
+    ensures unread { (order : ListOrder) → IsTask (map string_bytes words.now) (Task.Laws order) → (source.new ≡ source.old) × (shelf.new ≡ shelf.old) }
 
     ensures statuses { result ≤ 6 }
-    ensures shelf { shelf.new ≡ shelf.old }
+    ensures keeps { H.keeps shelf.new ≡ H.keeps shelf.old }
 {
     match task_of(words) {
         Task::Session => session(alloc, LIMIT, source, sink, shelf),
@@ -104,21 +113,24 @@ pub fn run<S: Source, K: Sink, H: Shelf>(
     }
 }
 
-/// A session over bytes has one text: two texts that it may have are equal, and both have a refusal
-/// line or neither has.
+/// A session over bytes and a shelf that tells what it keeps has one text: two texts that it may have
+/// are equal, and both have a refusal line or neither has.
 pub fn one_text()
-    ensures { (bytes text other : List ℕ) (refused also : Bool) → IsSession bytes text refused → IsSession bytes other also → (text ≡ other) × (refused ≡ also) }
+    ensures { (limit : ℕ) (kept : List ℕ → Option (List ℕ)) (bytes text other : List ℕ) (refused also : Bool)
+        → IsSession (record { limit = limit; keeps = Some kept }) bytes text refused → IsSession (record { limit = limit; keeps = Some kept }) bytes other also
+        → (text ≡ other) × (refused ≡ also) }
 {}
 
-/// Does what the words ask over forms in memory that never fail: a source of these bytes, and a
-/// sink that keeps nothing. The status is 0, 1 or 5; 1 only where the text of the bytes has a
-/// refusal line, and 0 only where it has none.
+/// Does what the words ask over forms in memory that never fail: a source of these bytes, a sink
+/// that keeps nothing, and a shelf. The status is 0, 1 or 5; 1 only where the text of the bytes has
+/// a refusal line, and 0 only where it has none.
 pub fn run_in_memory(alloc: Global, words: &[String], bytes: Vec<u8>, shelf: &mut SureShelf) -> u8
     requires words { IsTask (map string_bytes words.now) Task.Session }
     requires within { vec_len bytes ≤ 134217728 }
+    requires names_within { (name : List ℕ) → length (kept_or_empty shelf.old.entries.items name) ≤ 134217728 }
     ensures statuses { (result ≡ 0) ⊎ (result ≡ 1) ⊎ (result ≡ 5) }
-    ensures well { result ≡ 0 → (text : List ℕ) × IsSession bytes.items text false }
-    ensures refused { result ≡ 1 → (text : List ℕ) × IsSession bytes.items text true }
+    ensures well { result ≡ 0 → (text : List ℕ) × IsWholeSession (record { limit = 134217728; keeps = Some (λ name. Some (kept_or_empty shelf.old.entries.items name)) }) bytes.items text false }
+    ensures refused { result ≡ 1 → (text : List ℕ) × IsWholeSession (record { limit = 134217728; keeps = Some (λ name. Some (kept_or_empty shelf.old.entries.items name)) }) bytes.items text true }
 {
     let mut source = SureSource::of(bytes);
     let mut sink = SureSink::of();

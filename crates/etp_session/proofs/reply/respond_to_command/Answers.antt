@@ -1,7 +1,13 @@
+use Rattle.std.proofs.Common.{Some}
 use Rattle.etp_session.specs.Given.{given_text}
-use Rattle.etp_session.proofs.StateAnswers.{over-reply}
+use Rattle.etp_session.proofs.FileAnswers.{IfOk-then}
+use Rattle.etp_session.proofs.StateAnswers.{over-outcome, first-outcome}
 use Rattle.etp_session.proofs.reply.respond_to_command.Goals as goal
 
-pub returns-in_ok-filing-in-Some-clause-gives : goal.returns-in_ok-filing-in-Some-clause-gives
-returns-in_ok-filing-in-Some-clause-gives c state at =
-    over-reply c.in-Some.opened c.args.number _ (given_text c.args.line) c.obey.new.text c.in_ok-filing-in-Some.field-0.refused _ state c.command_of-command.ensures.request (rw (c.in-Some.is, c.requires.no_body) at at) c.in_ok-filing-in-Some.ensures.gives
+pub returns-in-Some-clause-gives : goal.returns-in-Some-clause-gives
+returns-in-Some-clause-gives c = IfOk-then c.obey.result _ _ (λ outcome h s state at.
+    over-outcome s c.in-Some.opened c.args.number _ (given_text c.args.line) c.obey.new.text (Some c.obey.new.opened) outcome state c.command_of-command.ensures.request (rw (c.in-Some.is, c.requires.no_body) at at) (h s)) c.obey.ensures.gives
+
+pub returns-in-None-clause-gives : goal.returns-in-None-clause-gives
+returns-in-None-clause-gives c = IfOk-then c.obey_first.result _ _ (λ outcome h s state at.
+    first-outcome s c.args.number _ (given_text c.args.line) c.obey_first.new.text c.obey_first.new.desk.opened outcome state c.command_of-command.ensures.request (rw (c.in-None.is, c.requires.no_body) at at) (h s)) c.obey_first.ensures.gives
