@@ -1,22 +1,23 @@
 -- Lines are read in one way, and are one body.
-use Rattle.std.proofs.Common.{◌≡◌, ℕ, List, [], ◌∷◌, ◌++◌, map, refl, sym, ap, subst, ◌∙◌, inl, inr, Some, None}
+use Rattle.std.proofs.Common.{◌≡◌, ℕ, List, [], ◌∷◌, ◌++◌, map, refl, sym, ap, subst, ◌∙◌, inl, inr, Some}
 use Rattle.etp_theory.specs.Proofs.{Lemma, ProofStep}
+use Rattle.etp_io.specs.Texts.{LineText, whole, too_long}
 use Rattle.etp_items.specs.Bodies.{ProofBody, FileBody, proof}
 use Rattle.etp_items.specs.BodyLines.{Version, Line, heading, cite, lemma, step}
-use Rattle.etp_items.specs.Reading.{GivenLine, Place, opening, within, after, Reads, lemma_lines, lines_said, IsBody}
+use Rattle.etp_items.specs.Reading.{Place, opening, within, after, Reads, lemma_lines, lines_said, IsBody}
 use Rattle.etp_items.proofs.OneLine.{one_line, blank_says}
 
 some_same : {A : Type 0} (a b : A) → Some a ≡ Some b → a ≡ b
 some_same a b e = cc
 
 -- what lines say, and where they lead, is one
-pub one_reading : (p : Place) (xs : List GivenLine) (s t : List Line) (q r : Place) → Reads p xs s q → Reads p xs t r → (s ≡ t) × (q ≡ r)
+pub one_reading : (p : Place) (xs : List LineText) (s t : List Line) (q r : Place) → Reads p xs s q → Reads p xs t r → (s ≡ t) × (q ≡ r)
 one_reading p [] s t q r h k = (h.0 ∙ sym k.0, h.1 ∙ sym k.1)
-one_reading p (None ∷ xs) s t q r h k = absurd h
-one_reading p (Some line ∷ xs) s t q r (inl h) (inl k) = one_reading p xs s t q r h.1 k.1
-one_reading p (Some line ∷ xs) s t q r (inl h) (inr (said, next, more, says, a, k, e)) = absurd (blank_says line said h.0 says)
-one_reading p (Some line ∷ xs) s t q r (inr (said, next, more, says, a, h, e)) (inl k) = absurd (blank_says line said k.0 says)
-one_reading p (Some line ∷ xs) s t q r (inr (said, next, more, says, a, h, e)) (inr (other, then, rest, also, b, k, f)) =
+one_reading p (too_long ∷ xs) s t q r h k = absurd h
+one_reading p (whole line ∷ xs) s t q r (inl h) (inl k) = one_reading p xs s t q r h.1 k.1
+one_reading p (whole line ∷ xs) s t q r (inl h) (inr (said, next, more, says, a, k, e)) = absurd (blank_says line said h.0 says)
+one_reading p (whole line ∷ xs) s t q r (inr (said, next, more, says, a, h, e)) (inl k) = absurd (blank_says line said k.0 says)
+one_reading p (whole line ∷ xs) s t q r (inr (said, next, more, says, a, h, e)) (inr (other, then, rest, also, b, k, f)) =
     let same : said ≡ other = one_line line said other says also in
     let there : next ≡ then = some_same next then (sym a ∙ ap (after p) same ∙ b) in
     let on = one_reading then xs more rest q r (subst (λ (z : Place). Reads z xs more q) there h) k in
@@ -82,6 +83,6 @@ one_proof v w p q e =
     (sym (cites_back p.cites p.lemmas) ∙ ap cites_in rest ∙ cites_back q.cites q.lemmas)
     (sym (past_cites p.cites (lemma_lines p.lemmas) ∙ lemmas_back p.lemmas) ∙ ap lemmas_in rest ∙ past_cites q.cites (lemma_lines q.lemmas) ∙ lemmas_back q.lemmas)
 
-pub one_body : (lines : List GivenLine) (b c : FileBody) → IsBody lines b → IsBody lines c → b ≡ c
+pub one_body : (lines : List LineText) (b c : FileBody) → IsBody lines b → IsBody lines c → b ≡ c
 one_body lines (proof p) (proof q) h k =
     ap proof (one_proof h.0 k.0 p q (one_reading opening lines (lines_said h.0 p) (lines_said k.0 q) (within h.0) (within k.0) h.1 k.1).0)

@@ -10,7 +10,9 @@ use Rattle.std.proofs.lemmas.Str.Parse.{IsNumeralModel, numerals_by_fold}
 use Rattle.etp_theory.specs.Positions.{Side, to_left, to_right}
 use Rattle.etp_theory.specs.Proofs.{ProofStep}
 use Rattle.etp_replay.specs.Names.{IsNameByte, IsName}
-use Rattle.etp_items.specs.Words.{is_blank, words_of, skip_blanks, skip_word, behind_word}
+use Rattle.etp_text.specs.Grammar.{is_blank}
+use Rattle.etp_text.specs.Machine.{skip_blanks}
+use Rattle.etp_items.specs.Words.{words_of, skip_word, behind_word}
 use Rattle.etp_items.specs.Numbers.{is_digit, value_after, number_of}
 use Rattle.etp_items.specs.BodyLines.{reference_of, reversed_of, side_then, sides_of, position_named}
 use Rattle.etp_items.specs.Written.{reference_word, direction_word, side_letter, position_word}

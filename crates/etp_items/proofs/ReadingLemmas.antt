@@ -2,28 +2,29 @@
 use Rattle.std.proofs.Common.{◌≡◌, ℕ, ◌+◌, ◌<◌, ◌≤◌, arith, List, [], ◌∷◌, ◌++◌, length, take, All, MatchOption, refl, sym, ap, subst, ◌∙◌, inl, inr, Option, Some, None, append_assoc, append-nil, length-append}
 use Rattle.std.proofs.lemmas.List.{take-append-le, take_all}
 use Rattle.std.proofs.lemmas.List.Elements.{All-push}
+use Rattle.etp_io.specs.Texts.{LineText, whole, too_long}
 use Rattle.etp_items.specs.BodyLines.{Line, Says, IsBlankLine}
-use Rattle.etp_items.specs.Reading.{GivenLine, Place, opening, after, Reads, numbers_of, IsListed, AreListed, IsFirstUnlisted, IsBadLine, HasNoPlace}
+use Rattle.etp_items.specs.Reading.{Place, opening, after, Reads, numbers_of, IsListed, AreListed, IsFirstUnlisted, IsBadLine, HasNoPlace}
 use Rattle.etp_items.specs.Work.{KnowsListed, IsFirstOf, unlisted_then}
 use Rattle.etp_items.specs.declared.reader.Unlisted.{Unlisted}
 use Rattle.etp_items.proofs.OneLine.{one_line, blank_says}
 
-pub reads_append : (p q r : Place) (xs ys : List GivenLine) (s t : List Line) → Reads p xs s q → Reads q ys t r → Reads p (xs ++ ys) (s ++ t) r
+pub reads_append : (p q r : Place) (xs ys : List LineText) (s t : List Line) → Reads p xs s q → Reads q ys t r → Reads p (xs ++ ys) (s ++ t) r
 reads_append p q r [] ys s t h k =
     subst (λ (z : List Line). Reads p ys (z ++ t) r) (sym h.0) (subst (λ (z : Place). Reads z ys t r) h.1 k)
-reads_append p q r (None ∷ xs) ys s t h k = absurd h
-reads_append p q r (Some line ∷ xs) ys s t (inl h) k = inl (h.0, reads_append p q r xs ys s t h.1 k)
-reads_append p q r (Some line ∷ xs) ys s t (inr (said, next, more, says, a, h, e)) k =
+reads_append p q r (too_long ∷ xs) ys s t h k = absurd h
+reads_append p q r (whole line ∷ xs) ys s t (inl h) k = inl (h.0, reads_append p q r xs ys s t h.1 k)
+reads_append p q r (whole line ∷ xs) ys s t (inr (said, next, more, says, a, h, e)) k =
     inr (said, next, more ++ t, says, a, reads_append next q r xs ys more t h k, ap (λ z. z ++ t) e)
 
-pub reads_blank : (p q : Place) (xs : List GivenLine) (s : List Line) (line : List ℕ) → Reads p xs s q → IsBlankLine line → Reads p (xs ++ Some line ∷ []) s q
+pub reads_blank : (p q : Place) (xs : List LineText) (s : List Line) (line : List ℕ) → Reads p xs s q → IsBlankLine line → Reads p (xs ++ whole line ∷ []) s q
 reads_blank p q xs s line h b =
-    subst (λ (z : List Line). Reads p (xs ++ Some line ∷ []) z q) (append-nil s) (reads_append p q q xs (Some line ∷ []) s [] h (inl (b, (refl, refl))))
+    subst (λ (z : List Line). Reads p (xs ++ whole line ∷ []) z q) (append-nil s) (reads_append p q q xs (whole line ∷ []) s [] h (inl (b, (refl, refl))))
 
-pub reads_said : (p q r : Place) (xs : List GivenLine) (s : List Line) (line : List ℕ) (said : Line) → Reads p xs s q → Says line said → after q said ≡ Some r
-    → Reads p (xs ++ Some line ∷ []) (s ++ said ∷ []) r
+pub reads_said : (p q r : Place) (xs : List LineText) (s : List Line) (line : List ℕ) (said : Line) → Reads p xs s q → Says line said → after q said ≡ Some r
+    → Reads p (xs ++ whole line ∷ []) (s ++ said ∷ []) r
 reads_said p q r xs s line said h says a =
-    reads_append p q r xs (Some line ∷ []) s (said ∷ []) h (inr (said, r, [], says, a, (refl, refl), refl))
+    reads_append p q r xs (whole line ∷ []) s (said ∷ []) h (inr (said, r, [], says, a, (refl, refl), refl))
 
 pub take_more : {A : Type 0} (n : ℕ) (xs : List A) (x : A) → n ≤ length xs → take n (xs ++ x ∷ []) ≡ take n xs
 take_more n xs x h = take-append-le n xs (x ∷ []) h
@@ -35,19 +36,19 @@ take_end : {A : Type 0} (n : ℕ) (xs : List A) (x : A) → length xs < n → ta
 take_end n xs x h =
     take_all n (xs ++ x ∷ []) (omega (arith, one_longer xs x)) ∙ ap (λ ys. ys ++ x ∷ []) (sym (take_all n xs (omega arith)))
 
-pub next_reads : (n : ℕ) (p q r : Place) (xs : List GivenLine) (s t : List Line) (line : List ℕ) (said : Line) → length xs < n → Reads p (take n xs) s q → Says line said → after q said ≡ Some r
-    → t ≡ s ++ said ∷ [] → Reads p (take n (xs ++ Some line ∷ [])) t r
+pub next_reads : (n : ℕ) (p q r : Place) (xs : List LineText) (s t : List Line) (line : List ℕ) (said : Line) → length xs < n → Reads p (take n xs) s q → Says line said → after q said ≡ Some r
+    → t ≡ s ++ said ∷ [] → Reads p (take n (xs ++ whole line ∷ [])) t r
 next_reads n p q r xs s t line said few h says a e =
-    subst (λ (z : List Line). Reads p (take n (xs ++ Some line ∷ [])) z r) (sym e)
-    (subst (λ (ys : List GivenLine). Reads p ys (s ++ said ∷ []) r) (sym (take_end n xs (Some line) few)) (reads_said p q r (take n xs) s line said h says a))
+    subst (λ (z : List Line). Reads p (take n (xs ++ whole line ∷ [])) z r) (sym e)
+    (subst (λ (ys : List LineText). Reads p ys (s ++ said ∷ []) r) (sym (take_end n xs (whole line) few)) (reads_said p q r (take n xs) s line said h says a))
 
-pub blank_reads : (n : ℕ) (p q : Place) (xs : List GivenLine) (s : List Line) (line : List ℕ) → length xs < n → Reads p (take n xs) s q → IsBlankLine line
-    → Reads p (take n (xs ++ Some line ∷ [])) s q
+pub blank_reads : (n : ℕ) (p q : Place) (xs : List LineText) (s : List Line) (line : List ℕ) → length xs < n → Reads p (take n xs) s q → IsBlankLine line
+    → Reads p (take n (xs ++ whole line ∷ [])) s q
 blank_reads n p q xs s line few h b =
-    subst (λ (ys : List GivenLine). Reads p ys s q) (sym (take_end n xs (Some line) few)) (reads_blank p q (take n xs) s line h b)
+    subst (λ (ys : List LineText). Reads p ys s q) (sym (take_end n xs (whole line) few)) (reads_blank p q (take n xs) s line h b)
 
 -- a first number stays the first whatever follows
-first_stays : (count : ℕ) (xs : List GivenLine) (x : GivenLine) (k n : ℕ) → IsFirstUnlisted count xs k n → IsFirstUnlisted count (xs ++ x ∷ []) k n
+first_stays : (count : ℕ) (xs : List LineText) (x : LineText) (k n : ℕ) → IsFirstUnlisted count xs k n → IsFirstUnlisted count (xs ++ x ∷ []) k n
 first_stays count xs x k n h = record {
   before = h.before;
   line = h.line;
@@ -64,17 +65,17 @@ first_stays count xs x k n h = record {
   known_listed = h.known_listed;
   unlisted = h.unlisted;
   behind = h.behind ++ x ∷ [];
-  whole = ap (λ ys. ys ++ x ∷ []) h.whole ∙ append_assoc h.before (Some h.line ∷ h.behind) (x ∷ []);
+  whole = ap (λ ys. ys ++ x ∷ []) h.whole ∙ append_assoc h.before (whole h.line ∷ h.behind) (x ∷ []);
 }
 
-knows_more : (count : ℕ) (xs : List GivenLine) (x : GivenLine) (s t : List Line) (u : Unlisted) → KnowsListed count xs s (Some u) → KnowsListed count (xs ++ x ∷ []) t (Some u)
+knows_more : (count : ℕ) (xs : List LineText) (x : LineText) (s t : List Line) (u : Unlisted) → KnowsListed count xs s (Some u) → KnowsListed count (xs ++ x ∷ []) t (Some u)
 knows_more count xs x s t u h = first_stays count xs x u.line u.number h
 
-knows_then : (count k : ℕ) (xs : List GivenLine) (s t : List Line) (q : Place) (line : List ℕ) (said : Line) (u : Option Unlisted) (o : Option ℕ)
+knows_then : (count k : ℕ) (xs : List LineText) (s t : List Line) (q : Place) (line : List ℕ) (said : Line) (u : Option Unlisted) (o : Option ℕ)
     → k ≡ length xs + 1 → Reads opening xs s q → Says line said → t ≡ s ++ said ∷ [] → KnowsListed count xs s u
     → MatchOption o (All (IsListed count) (numbers_of said)) (IsFirstOf count (numbers_of said))
-    → KnowsListed count (xs ++ Some line ∷ []) t (unlisted_then u o k)
-knows_then count k xs s t q line said (Some u) o place h says e known f = knows_more count xs (Some line) s t u known
+    → KnowsListed count (xs ++ whole line ∷ []) t (unlisted_then u o k)
+knows_then count k xs s t q line said (Some u) o place h says e known f = knows_more count xs (whole line) s t u known
 knows_then count k xs s t q line said None None place h says e known f =
     subst (AreListed count) (sym e) (All-push (λ l. All (IsListed count) (numbers_of l)) s said known f)
 knows_then count k xs s t q line said None (Some n) place h says e known f = record {
@@ -96,25 +97,25 @@ knows_then count k xs s t q line said None (Some n) place h says e known f = rec
   unlisted = f.unlisted;
 }
 
-pub next_knows : (limit count k : ℕ) (xs : List GivenLine) (s t : List Line) (q : Place) (line : List ℕ) (said : Line) (u : Option Unlisted) (o : Option ℕ)
+pub next_knows : (limit count k : ℕ) (xs : List LineText) (s t : List Line) (q : Place) (line : List ℕ) (said : Line) (u : Option Unlisted) (o : Option ℕ)
     → length xs < limit → k ≡ length xs + 1 → Reads opening (take limit xs) s q → Says line said → t ≡ s ++ said ∷ [] → KnowsListed count (take limit xs) s u
     → MatchOption o (All (IsListed count) (numbers_of said)) (IsFirstOf count (numbers_of said))
-    → KnowsListed count (take limit (xs ++ Some line ∷ [])) t (unlisted_then u o k)
+    → KnowsListed count (take limit (xs ++ whole line ∷ [])) t (unlisted_then u o k)
 next_knows limit count k xs s t q line said u o few place h says e known f =
-    subst (λ (ys : List GivenLine). KnowsListed count ys t (unlisted_then u o k)) (sym (take_end limit xs (Some line) few))
-    (knows_then count k (take limit xs) s t q line said u o (place ∙ ap (λ (ys : List GivenLine). length ys + 1) (sym (take_all limit xs (omega arith)))) h says e known f)
+    subst (λ (ys : List LineText). KnowsListed count ys t (unlisted_then u o k)) (sym (take_end limit xs (whole line) few))
+    (knows_then count k (take limit xs) s t q line said u o (place ∙ ap (λ (ys : List LineText). length ys + 1) (sym (take_all limit xs (omega arith)))) h says e known f)
 
-blank_then : (count : ℕ) (xs : List GivenLine) (x : GivenLine) (s : List Line) (u : Option Unlisted) → KnowsListed count xs s u → KnowsListed count (xs ++ x ∷ []) s u
+blank_then : (count : ℕ) (xs : List LineText) (x : LineText) (s : List Line) (u : Option Unlisted) → KnowsListed count xs s u → KnowsListed count (xs ++ x ∷ []) s u
 blank_then count xs x s None h = h
 blank_then count xs x s (Some u) h = knows_more count xs x s s u h
 
-pub blank_knows : (limit count : ℕ) (xs : List GivenLine) (x : GivenLine) (s : List Line) (u : Option Unlisted) → length xs < limit → KnowsListed count (take limit xs) s u
+pub blank_knows : (limit count : ℕ) (xs : List LineText) (x : LineText) (s : List Line) (u : Option Unlisted) → length xs < limit → KnowsListed count (take limit xs) s u
     → KnowsListed count (take limit (xs ++ x ∷ [])) s u
 blank_knows limit count xs x s u few h =
-    subst (λ (ys : List GivenLine). KnowsListed count ys s u) (sym (take_end limit xs x few)) (blank_then count (take limit xs) x s u h)
+    subst (λ (ys : List LineText). KnowsListed count ys s u) (sym (take_end limit xs x few)) (blank_then count (take limit xs) x s u h)
 
 -- a bad line stays bad whatever follows
-pub bad_stays : (xs : List GivenLine) (x : GivenLine) (k : ℕ) → IsBadLine xs k → IsBadLine (xs ++ x ∷ []) k
+pub bad_stays : (xs : List LineText) (x : LineText) (k : ℕ) → IsBadLine xs k → IsBadLine (xs ++ x ∷ []) k
 bad_stays xs x k h = record {
   before = h.before;
   line = h.line;
@@ -129,12 +130,12 @@ bad_stays xs x k h = record {
 }
 
 -- what says a line that may not follow has no place
-pub no_place : (place : Place) (line : List ℕ) (said : Line) → Says line said → after place said ≡ None → HasNoPlace place (Some line)
+pub no_place : (place : Place) (line : List ℕ) (said : Line) → Says line said → after place said ≡ None → HasNoPlace place (whole line)
 no_place place line said says none = (λ b. blank_says line said b says, λ l s. ap (after place) (one_line line l said s says) ∙ none)
 
 -- past the limit, or with a bad line, nothing is read
-pub more_reads : (limit : ℕ) (p q : Place) (xs : List GivenLine) (x : GivenLine) (s : List Line) → limit ≤ length xs → Reads p (take limit xs) s q → Reads p (take limit (xs ++ x ∷ [])) s q
-more_reads limit p q xs x s many h = subst (λ (ys : List GivenLine). Reads p ys s q) (sym (take_more limit xs x many)) h
+pub more_reads : (limit : ℕ) (p q : Place) (xs : List LineText) (x : LineText) (s : List Line) → limit ≤ length xs → Reads p (take limit xs) s q → Reads p (take limit (xs ++ x ∷ [])) s q
+more_reads limit p q xs x s many h = subst (λ (ys : List LineText). Reads p ys s q) (sym (take_more limit xs x many)) h
 
-pub more_knows : (limit count : ℕ) (xs : List GivenLine) (x : GivenLine) (s : List Line) (u : Option Unlisted) → limit ≤ length xs → KnowsListed count (take limit xs) s u → KnowsListed count (take limit (xs ++ x ∷ [])) s u
-more_knows limit count xs x s u many h = subst (λ (ys : List GivenLine). KnowsListed count ys s u) (sym (take_more limit xs x many)) h
+pub more_knows : (limit count : ℕ) (xs : List LineText) (x : LineText) (s : List Line) (u : Option Unlisted) → limit ≤ length xs → KnowsListed count (take limit xs) s u → KnowsListed count (take limit (xs ++ x ∷ [])) s u
+more_knows limit count xs x s u many h = subst (λ (ys : List LineText). KnowsListed count ys s u) (sym (take_more limit xs x many)) h

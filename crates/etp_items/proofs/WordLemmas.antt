@@ -4,7 +4,8 @@ use Rattle.std.proofs.lemmas.List.{take-append-drop, length-take, get_or-take}
 use Rattle.std.proofs.Math.Seq.{drop-cons, drop-length}
 use Rattle.std.proofs.Math.Nat.{pow-suc}
 use Rattle.etp_io.specs.Texts.{begin_first}
-use Rattle.etp_items.specs.Words.{is_blank, goes_on, words_of, skip_word}
+use Rattle.etp_text.specs.Grammar.{is_blank}
+use Rattle.etp_items.specs.Words.{goes_on, words_of, skip_word}
 
 words_of-blank : (b : ℕ) (bytes : List ℕ) → is_blank b ≡ true → words_of (b ∷ bytes) ≡ words_of bytes
 words_of-blank b bytes e = rw e refl

@@ -7,10 +7,11 @@ use Rattle.std.proofs.lemmas.List.Elements.{All-from_recursion}
 use Rattle.etp_theory.specs.Trees.{Tree, bound}
 use Rattle.etp_theory.specs.Proofs.{Lemma}
 use Rattle.etp_text.specs.Grammar.{Begins, IsAtom, IsSide, variable, enclosed, alone, joined, SpellsTerm}
+use Rattle.etp_io.specs.Texts.{LineText, whole, too_long}
 use Rattle.etp_items.specs.Numbers.{is_digit, value_after, is_number, number_of}
 use Rattle.etp_items.specs.Bodies.{FileBody, proof}
 use Rattle.etp_items.specs.BodyLines.{Version, plain, citing, Line, heading, cite, lemma, step, Says, reference_of}
-use Rattle.etp_items.specs.Reading.{GivenLine, Place, opening, headed, within, after, Reads, cite_limit, lemma_lines, lines_said, IsBody}
+use Rattle.etp_items.specs.Reading.{Place, opening, headed, within, after, Reads, cite_limit, lemma_lines, lines_said, IsBody}
 use Rattle.etp_items.specs.Written.{IsWritable, IsWritableBody, version_for}
 use Rattle.etp_items.proofs.ReadBack.{both}
 
@@ -75,26 +76,26 @@ says_writable line (cite name) s = s.named
 says_writable line (lemma t) s = (term_named _ t s.term.spelled, s.term.small)
 says_writable line (step x) s = (reference_fits s.reference x.line x.cited s.by, term_named _ x.to s.term.spelled, s.term.small)
 
-reads_writable : (p q : Place) (xs : List GivenLine) (saids : List Line) → Reads p xs saids q → AllByRecursion IsWritable saids
+reads_writable : (p q : Place) (xs : List LineText) (saids : List Line) → Reads p xs saids q → AllByRecursion IsWritable saids
 reads_writable p q [] saids h = subst (AllByRecursion IsWritable) (sym h.0) tt
-reads_writable p q (None ∷ xs) saids h = absurd h
-reads_writable p q (Some line ∷ xs) saids (inl h) = reads_writable p q xs saids h.1
-reads_writable p q (Some line ∷ xs) saids (inr (said, next, more, says, a, h, e)) =
+reads_writable p q (too_long ∷ xs) saids h = absurd h
+reads_writable p q (whole line ∷ xs) saids (inl h) = reads_writable p q xs saids h.1
+reads_writable p q (whole line ∷ xs) saids (inr (said, next, more, says, a, h, e)) =
     subst (AllByRecursion IsWritable) (sym e) (says_writable line said says, reads_writable next q xs more h)
 
 -- behind the heading
 pub record Behind (v : Version) (saids : List Line) (q : Place) : Type 0 where
-  pub lines : List GivenLine
+  pub lines : List LineText
   pub reads : Reads (headed v 0) lines saids q
 
 none_some : {A : Type 0} (a : A) → None ≡ Some a → ⊥
 none_some a e = cc
 
-behind_heading : (xs : List GivenLine) (v : Version) (e f : ℕ) (saids : List Line) (q : Place) → Reads opening xs (heading v e f ∷ saids) q → Behind v saids q
+behind_heading : (xs : List LineText) (v : Version) (e f : ℕ) (saids : List Line) (q : Place) → Reads opening xs (heading v e f ∷ saids) q → Behind v saids q
 behind_heading [] v e f saids q h = absurd (let k = h.0 in cc)
-behind_heading (None ∷ xs) v e f saids q h = absurd h
-behind_heading (Some line ∷ xs) v e f saids q (inl h) = behind_heading xs v e f saids q h.1
-behind_heading (Some line ∷ xs) v e f saids q (inr (said, next, more, says, a, h, eq)) =
+behind_heading (too_long ∷ xs) v e f saids q h = absurd h
+behind_heading (whole line ∷ xs) v e f saids q (inl h) = behind_heading xs v e f saids q h.1
+behind_heading (whole line ∷ xs) v e f saids q (inr (said, next, more, says, a, h, eq)) =
     let first : heading v e f ≡ said = cc in
     let rest : saids ≡ more = cc in
     let there : Some (headed v 0) ≡ Some next = ap (after opening) first ∙ a in
@@ -117,12 +118,12 @@ cite_stands : (v : Version) (n : ℕ) (name : List ℕ) (next : Place) → after
 cite_stands plain n name next e = absurd (none_some next e)
 cite_stands citing n name next e = cite_then (nat_lt n cite_limit) n next refl e
 
-few_cites : (xs : List GivenLine) (v : Version) (n : ℕ) (names : List (List ℕ)) (rest : List Line) (q : Place) → n ≤ cite_limit → Reads (headed v n) xs (map cite names ++ rest) q → n + length names ≤ cite_limit
+few_cites : (xs : List LineText) (v : Version) (n : ℕ) (names : List (List ℕ)) (rest : List Line) (q : Place) → n ≤ cite_limit → Reads (headed v n) xs (map cite names ++ rest) q → n + length names ≤ cite_limit
 few_cites xs v n [] rest q few h = omega arith
 few_cites [] v n (name ∷ names) rest q few h = absurd (let k = h.0 in cc)
-few_cites (None ∷ xs) v n (name ∷ names) rest q few h = absurd h
-few_cites (Some line ∷ xs) v n (name ∷ names) rest q few (inl h) = few_cites xs v n (name ∷ names) rest q few h.1
-few_cites (Some line ∷ xs) v n (name ∷ names) rest q few (inr (said, next, more, says, a, h, eq)) =
+few_cites (too_long ∷ xs) v n (name ∷ names) rest q few h = absurd h
+few_cites (whole line ∷ xs) v n (name ∷ names) rest q few (inl h) = few_cites xs v n (name ∷ names) rest q few h.1
+few_cites (whole line ∷ xs) v n (name ∷ names) rest q few (inr (said, next, more, says, a, h, eq)) =
     let first : cite name ≡ said = cc in
     let behind : map cite names ++ rest ≡ more = cc in
     let one = cite_stands v n name next (ap (after (headed v n)) first ∙ a) in
@@ -134,23 +135,23 @@ apart : (v w : Version) (n : ℕ) → within w ≡ headed v n → ⊥
 apart v w n e = cc
 
 -- cites alone are no body
-no_lemma : (xs : List GivenLine) (v w : Version) (n : ℕ) (names : List (List ℕ)) → Reads (headed v n) xs (map cite names ++ []) (within w) → ⊥
+no_lemma : (xs : List LineText) (v w : Version) (n : ℕ) (names : List (List ℕ)) → Reads (headed v n) xs (map cite names ++ []) (within w) → ⊥
 no_lemma [] v w n names h = apart v w n h.1
-no_lemma (None ∷ xs) v w n names h = h
-no_lemma (Some line ∷ xs) v w n names (inl h) = no_lemma xs v w n names h.1
-no_lemma (Some line ∷ xs) v w n [] (inr (said, next, more, says, a, h, eq)) = absurd (cc)
-no_lemma (Some line ∷ xs) v w n (name ∷ names) (inr (said, next, more, says, a, h, eq)) =
+no_lemma (too_long ∷ xs) v w n names h = h
+no_lemma (whole line ∷ xs) v w n names (inl h) = no_lemma xs v w n names h.1
+no_lemma (whole line ∷ xs) v w n [] (inr (said, next, more, says, a, h, eq)) = absurd (cc)
+no_lemma (whole line ∷ xs) v w n (name ∷ names) (inr (said, next, more, says, a, h, eq)) =
     let first : cite name ≡ said = cc in
     let behind : map cite names ++ [] ≡ more = cc in
     let one = cite_stands v n name next (ap (after (headed v n)) first ∙ a) in
     no_lemma xs v w (n + 1) names
     (subst (λ (z : Place). Reads z xs (map cite names ++ []) (within w)) one.there (subst (λ (z : List Line). Reads next xs z (within w)) (sym behind) h))
 
-some_lemma : (v : Version) (xs : List GivenLine) (names : List (List ℕ)) (ls : List Lemma) → Reads (headed v 0) xs (map cite names ++ lemma_lines ls) (within v) → 0 < length ls
+some_lemma : (v : Version) (xs : List LineText) (names : List (List ℕ)) (ls : List Lemma) → Reads (headed v 0) xs (map cite names ++ lemma_lines ls) (within v) → 0 < length ls
 some_lemma v xs names [] h = absurd (no_lemma xs v v 0 names h)
 some_lemma v xs names (l ∷ ls) h = omega arith
 
-pub body_writable : (lines : List GivenLine) (b : FileBody) → IsBody lines b → IsWritableBody b
+pub body_writable : (lines : List LineText) (b : FileBody) → IsBody lines b → IsWritableBody b
 body_writable lines (proof p) (v, h) =
     let all = reads_writable opening (within v) lines (lines_said v p) h in
     let behind = behind_heading lines v p.hypothesis p.goal (map cite p.cites ++ lemma_lines p.lemmas) (within v) h in

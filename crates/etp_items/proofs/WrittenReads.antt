@@ -12,14 +12,14 @@ use Rattle.etp_text.specs.Grammar.{IsName as IsLetters, SpellsTerm}
 use Rattle.etp_text.specs.Refusals.{side_limit}
 use Rattle.etp_text.proofs.Names.{variable_is_name}
 use Rattle.etp_text.proofs.Writing.{written_term_spells}
-use Rattle.etp_io.specs.Texts.{whole, NoNewline, text_of, without_return}
+use Rattle.etp_io.specs.Texts.{LineText, whole, lines_of, NoNewline, text_of, without_return}
 use Rattle.etp_io.proofs.LineLemmas.{raw_lines-cut}
 use Rattle.etp_replay.specs.Names.{IsName}
 use Rattle.etp_items.specs.Bodies.{ProofBody, FileBody, proof}
 use Rattle.etp_items.specs.Words.{words_of, behind_word}
 use Rattle.etp_items.specs.BodyLines.{Version, plain, citing, version_word, Line, heading, cite, lemma, step, SpellsSide, SaysHeading, SaysCite, SaysLemma, SaysStep, Says}
-use Rattle.etp_items.specs.Reading.{GivenLine, Place, opening, headed, within, after, may_step, Reads, cite_limit, lemma_lines, lines_said, IsBody}
-use Rattle.etp_items.specs.Written.{reference_word, direction_word, position_word, written_line, written_lines, is_cited, has_cited, is_empty, is_citing, version_for, written_body, IsWritable, IsShort, IsWritableBody, IsShortBody, given_line, given_lines}
+use Rattle.etp_items.specs.Reading.{Place, opening, headed, within, after, may_step, Reads, cite_limit, lemma_lines, lines_said, IsBody}
+use Rattle.etp_items.specs.Written.{reference_word, direction_word, position_word, written_line, written_lines, is_cited, has_cited, is_empty, is_citing, version_for, written_body, IsWritable, IsShort, IsWritableBody, IsShortBody}
 use Rattle.etp_items.proofs.ReadBack.{both, either, neither, together, joined, is_text, graph_text, IsWord, words_front, words_last, behind_front, decimal_number, decimal_word, name_word, reference_is_word, direction_is_word, position_is_word, reference_said, direction_said, position_said}
 
 -- a written term is a text of letters, digits, signs and spaces
@@ -177,17 +177,17 @@ short_text w h e =
     rw n (ap whole e)
 
 -- the lines of written lines
-abbrev pub as_given : List Line → List GivenLine
+abbrev pub as_given : List Line → List LineText
 as_given [] = []
-as_given (l ∷ ls) = Some (written_line l) ∷ as_given ls
+as_given (l ∷ ls) = whole (written_line l) ∷ as_given ls
 
-lines_back : (ls : List Line) → AllByRecursion IsWritable ls → AllByRecursion IsShort ls → given_lines (written_lines ls) ≡ as_given ls
+lines_back : (ls : List Line) → AllByRecursion IsWritable ls → AllByRecursion IsShort ls → lines_of (written_lines ls) ≡ as_given ls
 lines_back [] h k = refl
 lines_back (l ∷ ls) h k =
     let text = line_text l h.0 in
-    ap (λ z. map given_line (map (text_of 4096) z)) (raw_lines-cut (written_line l) (written_lines ls) (no_newline (written_line l) text))
-    ∙ ap (λ z. given_line z ∷ given_lines (written_lines ls)) (short_text (written_line l) k.0 (no_return (written_line l) text))
-    ∙ ap (λ z. Some (written_line l) ∷ z) (lines_back ls h.1 k.1)
+    ap (map (text_of 4096)) (raw_lines-cut (written_line l) (written_lines ls) (no_newline (written_line l) text))
+    ∙ ap (λ z. z ∷ lines_of (written_lines ls)) (short_text (written_line l) k.0 (no_return (written_line l) text))
+    ∙ ap (λ z. whole (written_line l) ∷ z) (lines_back ls h.1 k.1)
 
 -- written lines are read, one after another
 read_one : (p next q : Place) (l : Line) (ls : List Line) → IsWritable l → after p l ≡ Some next → Reads next (as_given ls) ls q → Reads p (as_given (l ∷ ls)) (l ∷ ls) q
@@ -267,12 +267,12 @@ read_version p false plain e f some few h =
     (subst (λ (z : List Line). Reads (headed plain 0) (as_given z) z (within plain)) (sym lines)
     (read_all_lemmas plain 0 p.lemmas some (inr n.1) (subst (AllByRecursion IsWritable) lines h.1)))
 
-pub written_body_reads : (b : FileBody) → IsWritableBody b → IsShortBody b → IsBody (given_lines (written_body b)) b
+pub written_body_reads : (b : FileBody) → IsWritableBody b → IsShortBody b → IsBody (lines_of (written_body b)) b
 written_body_reads (proof p) (some, few, writable) short =
     let v = version_for p in
     let said = lines_said v p in
     let all : AllByRecursion IsWritable said = recursion_from_All IsWritable said writable in
     let brief : AllByRecursion IsShort said = recursion_from_All IsShort said short in (
       v,
-      subst (λ (z : List GivenLine). Reads opening z said (within v)) (sym (lines_back said all brief)) (read_version p (is_citing p) v refl refl some few all),
+      subst (λ (z : List LineText). Reads opening z said (within v)) (sym (lines_back said all brief)) (read_version p (is_citing p) v refl refl some few all),
     )

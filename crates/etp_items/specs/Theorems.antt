@@ -1,9 +1,10 @@
 -- What ties lines, bodies and refusals together.
 use Rattle.std.specs.Prelude.{◌≡◌, ℕ, Bool, List}
+use Rattle.etp_io.specs.Texts.{LineText, lines_of}
 use Rattle.etp_items.specs.Bodies.{FileBody}
 use Rattle.etp_items.specs.BodyLines.{Line, Says, IsBlankLine}
-use Rattle.etp_items.specs.Reading.{GivenLine, IsBody, IsReadBody, Refuses}
-use Rattle.etp_items.specs.Written.{written_body, IsWritableBody, IsShortBody, given_lines}
+use Rattle.etp_items.specs.Reading.{IsBody, IsReadBody, Refuses}
+use Rattle.etp_items.specs.Written.{written_body, IsWritableBody, IsShortBody}
 use Rattle.etp_items.specs.declared.refusal.BodyRefusal.{BodyRefusal}
 
 -- lines, bodies, refusals and the written form
@@ -12,13 +13,13 @@ pub record BodyLaws : Type 0 where
   pub one_line : (line : List ℕ) (l m : Line) → Says line l → Says line m → l ≡ m
   pub blank_line : (line : List ℕ) (l : Line) → IsBlankLine line → Says line l → ⊥
   -- lines are one body
-  pub one_body : (lines : List GivenLine) (b c : FileBody) → IsBody lines b → IsBody lines c → b ≡ c
+  pub one_body : (lines : List LineText) (b c : FileBody) → IsBody lines b → IsBody lines c → b ≡ c
   -- lines that are a closed body with listed numbers aren't refused
-  pub body_stands : (count : ℕ) (lines : List GivenLine) (closed : Bool) (b : FileBody) (r : BodyRefusal)
+  pub body_stands : (count : ℕ) (lines : List LineText) (closed : Bool) (b : FileBody) (r : BodyRefusal)
       → IsReadBody count lines closed b → Refuses count lines closed r → ⊥
   -- and lines that are refused have one refusal
-  pub one_refusal : (count : ℕ) (lines : List GivenLine) (closed : Bool) (r s : BodyRefusal)
+  pub one_refusal : (count : ℕ) (lines : List LineText) (closed : Bool) (r s : BodyRefusal)
       → Refuses count lines closed r → Refuses count lines closed s → r ≡ s
   -- what is read can be written, and what is written in short lines is read again
-  pub body_writable : (lines : List GivenLine) (b : FileBody) → IsBody lines b → IsWritableBody b
-  pub written_body_reads : (b : FileBody) → IsWritableBody b → IsShortBody b → IsBody (given_lines (written_body b)) b
+  pub body_writable : (lines : List LineText) (b : FileBody) → IsBody lines b → IsWritableBody b
+  pub written_body_reads : (b : FileBody) → IsWritableBody b → IsShortBody b → IsBody (lines_of (written_body b)) b

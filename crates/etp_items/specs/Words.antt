@@ -1,11 +1,9 @@
 -- The words of a line.
-use Rattle.std.specs.Prelude.{ℕ, List, [], ◌∷◌, Bool, false, not, ◌||◌, nat_eq, if◌then◌else◌}
+use Rattle.std.specs.Prelude.{ℕ, List, [], ◌∷◌, Bool, false, not, nat_eq, if◌then◌else◌}
 use Rattle.std.specs.Cmp.Lexicographic.{pointwise}
 use Rattle.etp_io.specs.Texts.{begin_first}
-
--- a space or a tab
-abbrev pub is_blank : ℕ → Bool
-is_blank b = nat_eq b 32 || nat_eq b 9
+use Rattle.etp_text.specs.Grammar.{is_blank}
+use Rattle.etp_text.specs.Machine.{skip_blanks}
 
 -- whether a word goes on here
 abbrev pub goes_on : List ℕ → Bool
@@ -16,11 +14,6 @@ goes_on (b ∷ bytes) = not (is_blank b)
 abbrev pub words_of : List ℕ → List (List ℕ)
 words_of [] = []
 words_of (b ∷ bytes) = if is_blank b then words_of bytes else (if goes_on bytes then begin_first b (words_of bytes) else (b ∷ []) ∷ words_of bytes)
-
--- without the blanks at its front
-abbrev pub skip_blanks : List ℕ → List ℕ
-skip_blanks [] = []
-skip_blanks (b ∷ bytes) = if is_blank b then skip_blanks bytes else b ∷ bytes
 
 -- without the bytes at its front that are no blanks
 abbrev pub skip_word : List ℕ → List ℕ

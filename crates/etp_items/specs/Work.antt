@@ -1,11 +1,12 @@
 -- What a reader has read of a body.
 use Rattle.std.specs.Prelude.{◌≡◌, ◌+◌, ℕ, Bool, true, false, min, List, [], ◌∷◌, ◌++◌, length, take, All, Option, Some, None}
+use Rattle.etp_io.specs.Texts.{LineText}
 use Rattle.etp_replay.specs.declared.proof.Lemma.{Lemma}
 use Rattle.etp_replay.specs.declared.label.Label.{Label}
 use Rattle.etp_items.specs.Bodies.{FileBody, proof, proof_of}
 use Rattle.etp_items.specs.BodyLines.{Version, Line}
 use Rattle.etp_items.specs.Said.{version_of}
-use Rattle.etp_items.specs.Reading.{GivenLine, Place, opening, headed, within, after, Reads, line_limit, lines_said, IsListed, AreListed, IsFirstUnlisted, IsBadLine, HasNoPlace}
+use Rattle.etp_items.specs.Reading.{Place, opening, headed, within, after, Reads, line_limit, lines_said, IsListed, AreListed, IsFirstUnlisted, IsBadLine, HasNoPlace}
 use Rattle.etp_items.specs.declared.proof_work.ProofWork.{ProofWork}
 use Rattle.etp_items.specs.declared.work.Work.{Work}
 use Rattle.etp_items.specs.declared.work.Work.TheVariants.{Opening, Proof}
@@ -45,7 +46,7 @@ abbrev pub IsWhole : Place → List Line → FileBody → Type 0
 IsWhole place saids (proof p) = (version : Version) × (place ≡ within version) × (saids ≡ lines_said version p)
 
 -- the first law number that isn't listed, where there is one
-abbrev pub KnowsListed : ℕ → List GivenLine → List Line → Option Unlisted → Type 0
+abbrev pub KnowsListed : ℕ → List LineText → List Line → Option Unlisted → Type 0
 KnowsListed count lines saids None = AreListed count saids
 KnowsListed count lines saids (Some u) = IsFirstUnlisted count lines u.line u.number
 
@@ -64,22 +65,22 @@ unlisted_then None None k = None
 unlisted_then None (Some n) k = Some (record { line = k; number = n })
 
 -- the lines that may stand in a body have all been read
-pub record HasGoodLines (reader : BodyReader) (lines : List GivenLine) : Type 0 where
+pub record HasGoodLines (reader : BodyReader) (lines : List LineText) : Type 0 where
   pub reads : Reads opening (take line_limit lines) (said_by reader.work) (place_of reader.work)
   pub listed : KnowsListed reader.count (take line_limit lines) (said_by reader.work) reader.unlisted
 
 -- what stands of the first bad line
-abbrev pub HasFound : BodyReader → List GivenLine → Option ℕ → Type 0
+abbrev pub HasFound : BodyReader → List LineText → Option ℕ → Type 0
 HasFound reader lines None = HasGoodLines reader lines
 HasFound reader lines (Some line) = IsBadLine lines line
 
 -- these lines have been pushed
-pub record HasRead (reader : BodyReader) (lines : List GivenLine) : Type 0 where
+pub record HasRead (reader : BodyReader) (lines : List LineText) : Type 0 where
   pub counted : reader.lines ≡ min (length lines) (line_limit + 1)
   pub found : HasFound reader lines reader.bad
 
 -- the reader has gone past this line, or the line can't stand there
-abbrev pub GoesPast : BodyReader → BodyReader → List GivenLine → GivenLine → Bool → Type 0
+abbrev pub GoesPast : BodyReader → BodyReader → List LineText → LineText → Bool → Type 0
 GoesPast old new lines line true = HasGoodLines new (lines ++ line ∷ [])
 GoesPast old new lines line false = HasNoPlace (place_of old.work) line
 

@@ -1,16 +1,15 @@
 -- Bodies as they are written.
-use Rattle.std.specs.Prelude.{◌<◌, ◌≤◌, ◌^◌, ℕ, length, All, Some, None, Bool, true, false, not, ◌||◌, List, [], ◌∷◌, ◌++◌, map, codes, decimal, if◌then◌else◌}
+use Rattle.std.specs.Prelude.{◌<◌, ◌≤◌, ◌^◌, ℕ, length, All, Bool, true, false, not, ◌||◌, List, [], ◌∷◌, ◌++◌, map, codes, decimal, if◌then◌else◌}
 use Rattle.std.specs.List.{list_any}
 use Rattle.etp_theory.specs.Trees.{bound, leaves}
 use Rattle.etp_theory.specs.Positions.{Side, to_left, to_right}
 use Rattle.etp_theory.specs.Proofs.{ProofStep, Lemma}
 use Rattle.etp_text.specs.Written.{written_term}
 use Rattle.etp_text.specs.Refusals.{side_limit}
-use Rattle.etp_io.specs.Texts.{LineText, whole, too_long, lines_of}
 use Rattle.etp_replay.specs.Names.{IsName}
 use Rattle.etp_items.specs.Bodies.{ProofBody, FileBody, proof}
 use Rattle.etp_items.specs.BodyLines.{Version, plain, citing, version_word, Line, heading, cite, lemma, step}
-use Rattle.etp_items.specs.Reading.{GivenLine, cite_limit, lines_said}
+use Rattle.etp_items.specs.Reading.{cite_limit, lines_said}
 
 -- the number of a line, or `c` and that of a cite
 abbrev pub reference_word : ProofStep → List ℕ
@@ -95,12 +94,3 @@ IsWritableBody (proof p) =
 -- each of its lines is short
 abbrev pub IsShortBody : FileBody → Type 0
 IsShortBody (proof p) = All IsShort (lines_said (version_for p) p)
-
--- a line of a text, as a reader is given it
-abbrev pub given_line : LineText → GivenLine
-given_line (whole line) = Some line
-given_line too_long = None
-
--- the lines of a text
-abbrev pub given_lines : List ℕ → List GivenLine
-given_lines text = map given_line (lines_of text)

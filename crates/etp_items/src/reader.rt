@@ -1,9 +1,9 @@
-ghost use Rattle.std.specs.Prelude.{◌≡◌, ◌≤◌, ◌<◌, ◌+◌, ◌++◌, ◌∷◌, [], ℕ, List, true, false, min, Some, None, length, All, IfOk, IfErr, OnOk, OnErr, IfSome, IsTrue, ◌↔◌, MatchOption};
-ghost use Rattle.std.specs.Option.{option_copied};
+ghost use Rattle.std.specs.Prelude.{◌≡◌, ◌≤◌, ◌<◌, ◌+◌, ◌++◌, ◌∷◌, [], ℕ, List, true, false, min, None, length, All, IfOk, IfErr, OnOk, OnErr, IfSome, IsTrue, ◌↔◌, MatchOption};
+ghost use Rattle.etp_io.specs.Texts.{LineText, whole};
 ghost use Rattle.etp_items.specs.Bodies.{body_of};
 ghost use Rattle.etp_items.specs.BodyLines.{Says, IsBlankLine};
 ghost use Rattle.etp_items.specs.Said.{line_of};
-ghost use Rattle.etp_items.specs.Reading.{GivenLine, line_limit, numbers_of, IsListed, IsReadBody, Refuses};
+ghost use Rattle.etp_items.specs.Reading.{given_text, line_limit, numbers_of, IsListed, IsReadBody, Refuses};
 ghost use Rattle.etp_items.specs.Work.{HasGoodLines, HasRead, GoesPast, KeepsCounts, IsFirstOf, unlisted_then};
 
 use crate::body::Body;
@@ -95,7 +95,7 @@ impl BodyReader {
     /// here: `finish` tells the first one.
     pub fn push(&mut self, line: Option<&[u8]>) -> Result<(), NoMemory>
         requires { IfSome line (λ bytes. length bytes.now ≤ 4096) }
-        ensures ok { OnOk result ((lines : List GivenLine) → HasRead self.old lines → HasRead self.new (lines ++ option_copied line.entry ∷ [])) }
+        ensures ok { OnOk result ((lines : List LineText) → HasRead self.old lines → HasRead self.new (lines ++ given_text line.entry ∷ [])) }
         ensures count { OnOk result (self.new.count ≡ self.old.count) }
         ensures err { OnErr result (self.new ≡ self.old) }
     {
@@ -130,7 +130,7 @@ impl BodyReader {
     fn read_next(&mut self, line: Option<&[u8]>) -> Result<bool, NoMemory>
         requires short { IfSome line (λ bytes. length bytes.now ≤ 4096) }
         requires few { self.old.lines < line_limit }
-        ensures past { IfOk result (λ good. (lines : List GivenLine) → length lines ≡ self.old.lines → HasGoodLines self.old lines → GoesPast self.old self.new lines (option_copied line.entry) good) }
+        ensures past { IfOk result (λ good. (lines : List LineText) → length lines ≡ self.old.lines → HasGoodLines self.old lines → GoesPast self.old self.new lines (given_text line.entry) good) }
         ensures counts { OnOk result (KeepsCounts self.old self.new) }
         ensures err { OnErr result (self.new ≡ self.old) }
     {
@@ -149,7 +149,7 @@ impl BodyReader {
     /// Takes what a line says, and answers whether it may stand.
     fn take(&mut self, said: Said) -> Result<bool, NoMemory>
         requires few { self.old.lines < line_limit }
-        ensures past { IfOk result (λ good. (lines : List GivenLine) (line : List ℕ) → length lines ≡ self.old.lines → HasGoodLines self.old lines → Says line (line_of said) → GoesPast self.old self.new lines (Some line) good) }
+        ensures past { IfOk result (λ good. (lines : List LineText) (line : List ℕ) → length lines ≡ self.old.lines → HasGoodLines self.old lines → Says line (line_of said) → GoesPast self.old self.new lines (whole line) good) }
         ensures counts { OnOk result (KeepsCounts self.old self.new) }
         ensures err { OnErr result (self.new ≡ self.old) }
     {
@@ -164,8 +164,8 @@ impl BodyReader {
 
     /// The body that the lines are. `closed` says that they ended in a proper way.
     pub fn finish(self, closed: bool) -> Result<Body, BodyRefusal>
-        ensures ok { IfOk result (λ body. (lines : List GivenLine) → HasRead self lines → IsReadBody self.count lines closed (body_of body)) }
-        ensures err { IfErr result (λ refusal. (lines : List GivenLine) → HasRead self lines → Refuses self.count lines closed refusal) }
+        ensures ok { IfOk result (λ body. (lines : List LineText) → HasRead self lines → IsReadBody self.count lines closed (body_of body)) }
+        ensures err { IfErr result (λ refusal. (lines : List LineText) → HasRead self lines → Refuses self.count lines closed refusal) }
     {
         let BodyReader {
             count: _,

@@ -1,5 +1,7 @@
 ghost use Rattle.std.specs.Prelude.{List, ℕ, ◌≡◌, ◌≤◌, ◌<◌, ◌∷◌, [], take, drop, length, IfSome, IsTrue, ◌↔◌, MatchOption, true};
-ghost use Rattle.etp_items.specs.Words.{words_of, is_blank, goes_on, skip_blanks, skip_word, behind_word, is_word, is_comment};
+ghost use Rattle.etp_text.specs.Grammar.{is_blank};
+ghost use Rattle.etp_text.specs.Machine.{skip_blanks};
+ghost use Rattle.etp_items.specs.Words.{words_of, goes_on, skip_word, behind_word, is_word, is_comment};
 
 fn is_blank(byte: u8) -> bool
     ensures { result ≡ is_blank byte }

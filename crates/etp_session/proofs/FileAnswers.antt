@@ -1,10 +1,10 @@
 -- Replies to files from the parts that give them.
 use Rattle.std.proofs.Common.{◌≡◌, ℕ, List, [], ◌∷◌, ◌++◌, refl, sym, ◌∙◌, ap, subst, Option, None, Some, Bool, true, false}
+use Rattle.etp_io.specs.Texts.{LineText, whole, too_long}
 use Rattle.std.specs.Prelude.{IfOk, OnOk, IsTrue, ◌↔◌, Ok, length, Err, Result, is_some, position, if◌then◌else◌}
 use Rattle.std.specs.declared.alloc.AllocError.{AllocError}
 use Rattle.etp_items.specs.Words.{words_of}
 use Rattle.etp_items.specs.BodyLines.{are_blank}
-use Rattle.etp_items.specs.Reading.{GivenLine}
 use Rattle.etp_items.specs.declared.reader.BodyReader.{BodyReader}
 use Rattle.etp_items.specs.Work.{HasRead}
 use Rattle.etp_laws.specs.Listing.{IsTheList}
@@ -43,39 +43,39 @@ refuses-file o g closed n text why flag a e r h = record {
 }
 
 -- what a first line tells
-pub first-blank : (l : GivenLine) → begins_as l ≡ Blank → (names_unbuilt (l ∷ []) ≡ false) × (are_all_blank (l ∷ []) ≡ true)
-first-blank None h = absurd (cc)
-first-blank (Some line) h = go (are_blank (words_of line)) (begins_unbuilt (words_of line)) refl refl h
+pub first-blank : (l : LineText) → begins_as l ≡ Blank → (names_unbuilt (l ∷ []) ≡ false) × (are_all_blank (l ∷ []) ≡ true)
+first-blank too_long h = absurd (cc)
+first-blank (whole line) h = go (are_blank (words_of line)) (begins_unbuilt (words_of line)) refl refl h
   where
     go : (b u : Bool) → are_blank (words_of line) ≡ b → begins_unbuilt (words_of line) ≡ u → (if b then Blank else (if u then NotBuilt else Other)) ≡ Blank
-        → (names_unbuilt (Some line ∷ []) ≡ false) × (are_all_blank (Some line ∷ []) ≡ true)
+        → (names_unbuilt (whole line ∷ []) ≡ false) × (are_all_blank (whole line ∷ []) ≡ true)
     go true u e f h = (rw e refl, rw e refl)
     go false true e f h = absurd (cc)
     go false false e f h = absurd (cc)
 
-pub first-other : (l : GivenLine) → begins_as l ≡ Other → (names_unbuilt (l ∷ []) ≡ false) × (are_all_blank (l ∷ []) ≡ false)
-first-other None h = (refl, refl)
-first-other (Some line) h = go (are_blank (words_of line)) (begins_unbuilt (words_of line)) refl refl h
+pub first-other : (l : LineText) → begins_as l ≡ Other → (names_unbuilt (l ∷ []) ≡ false) × (are_all_blank (l ∷ []) ≡ false)
+first-other too_long h = (refl, refl)
+first-other (whole line) h = go (are_blank (words_of line)) (begins_unbuilt (words_of line)) refl refl h
   where
     go : (b u : Bool) → are_blank (words_of line) ≡ b → begins_unbuilt (words_of line) ≡ u → (if b then Blank else (if u then NotBuilt else Other)) ≡ Other
-        → (names_unbuilt (Some line ∷ []) ≡ false) × (are_all_blank (Some line ∷ []) ≡ false)
+        → (names_unbuilt (whole line ∷ []) ≡ false) × (are_all_blank (whole line ∷ []) ≡ false)
     go true u e f h = absurd (cc)
     go false true e f h = absurd (cc)
     go false false e f h = (rw (e, f) refl, rw e refl)
 
-pub first-unbuilt : (l : GivenLine) → begins_as l ≡ NotBuilt → names_unbuilt (l ∷ []) ≡ true
-first-unbuilt None h = absurd (cc)
-first-unbuilt (Some line) h = go (are_blank (words_of line)) (begins_unbuilt (words_of line)) refl refl h
+pub first-unbuilt : (l : LineText) → begins_as l ≡ NotBuilt → names_unbuilt (l ∷ []) ≡ true
+first-unbuilt too_long h = absurd (cc)
+first-unbuilt (whole line) h = go (are_blank (words_of line)) (begins_unbuilt (words_of line)) refl refl h
   where
     go : (b u : Bool) → are_blank (words_of line) ≡ b → begins_unbuilt (words_of line) ≡ u → (if b then Blank else (if u then NotBuilt else Other)) ≡ NotBuilt
-        → names_unbuilt (Some line ∷ []) ≡ true
+        → names_unbuilt (whole line ∷ []) ≡ true
     go true u e f h = absurd (cc)
     go false true e f h = rw (e, f) refl
     go false false e f h = absurd (cc)
 
 -- a line more, before which all are blank
-pub reads-blank : (o : Opened) (name : List ℕ) (r s : BodyReader) (g : Filing) (l : GivenLine) → begins_as l ≡ Blank
-    → ((lines : List GivenLine) → HasRead r lines → HasRead s (lines ++ l ∷ [])) → s.count ≡ r.count
+pub reads-blank : (o : Opened) (name : List ℕ) (r s : BodyReader) (g : Filing) (l : LineText) → begins_as l ≡ Blank
+    → ((lines : List LineText) → HasRead r lines → HasRead s (lines ++ l ∷ [])) → s.count ≡ r.count
     → IsReading o name r g × (are_all_blank g.lines ≡ true) → IsReading o name s (with_line g l) × (are_all_blank (g.lines ++ l ∷ []) ≡ true)
 reads-blank o name r s g l b pushed count h =
     let first = first-blank l b in (
@@ -83,8 +83,8 @@ reads-blank o name r s g l b pushed count h =
       blank-first g.lines l h.1 ∙ first.1,
     )
 
-pub reads-other : (o : Opened) (name : List ℕ) (r s : BodyReader) (g : Filing) (l : GivenLine) → begins_as l ≡ Other
-    → ((lines : List GivenLine) → HasRead r lines → HasRead s (lines ++ l ∷ [])) → s.count ≡ r.count
+pub reads-other : (o : Opened) (name : List ℕ) (r s : BodyReader) (g : Filing) (l : LineText) → begins_as l ≡ Other
+    → ((lines : List LineText) → HasRead r lines → HasRead s (lines ++ l ∷ [])) → s.count ≡ r.count
     → IsReading o name r g × (are_all_blank g.lines ≡ true) → IsReading o name s (with_line g l) × (are_all_blank (g.lines ++ l ∷ []) ≡ false)
 reads-other o name r s g l b pushed count h =
     let first = first-other l b in (
@@ -93,8 +93,8 @@ reads-other o name r s g l b pushed count h =
     )
 
 -- a line more, before which one isn't
-pub reads-later : (o : Opened) (name : List ℕ) (r s : BodyReader) (g : Filing) (l : GivenLine)
-    → ((lines : List GivenLine) → HasRead r lines → HasRead s (lines ++ l ∷ [])) → s.count ≡ r.count
+pub reads-later : (o : Opened) (name : List ℕ) (r s : BodyReader) (g : Filing) (l : LineText)
+    → ((lines : List LineText) → HasRead r lines → HasRead s (lines ++ l ∷ [])) → s.count ≡ r.count
     → IsReading o name r g × (are_all_blank g.lines ≡ false) → IsReading o name s (with_line g l) × (are_all_blank (g.lines ++ l ∷ []) ≡ false)
 reads-later o name r s g l pushed count h = (
   record { free = h.0.free; read = pushed g.lines h.0.read; count = count ∙ h.0.count; built = unbuilt-later g.lines l h.1 ∙ h.0.built },

@@ -1,5 +1,6 @@
 -- What one body line more does to a file that is read, and what a body that was read has.
 use Rattle.std.proofs.Common.{◌≡◌, ℕ, ◌+◌, ◌<◌, ◌≤◌, inl, inr, nat_lt, not, cond, append-nil, List, [], ◌∷◌, ◌++◌, length, map, refl, sym, ap, subst, Option, None, Some, Bool, true, false, arith}
+use Rattle.etp_io.specs.Texts.{LineText, whole, too_long}
 use Rattle.std.specs.Prelude.{IsSome, position, slice_get, if◌then◌else◌}
 use Rattle.std.specs.List.{position_or_len}
 use Rattle.std.proofs.lemmas.List.Elements.{All-head, All-tail}
@@ -14,66 +15,66 @@ use Rattle.etp_laws.specs.LawLists.{entry_at}
 use Rattle.etp_items.specs.Words.{words_of}
 use Rattle.etp_items.specs.BodyLines.{Version, plain, citing, Line, heading, cite, are_blank}
 use Rattle.etp_items.specs.Bodies.{FileBody, proof}
-use Rattle.etp_items.specs.Reading.{GivenLine, Place, opening, headed, within, after, Reads, cite_limit, lines_said, IsBody, IsReadBody, IsListed}
+use Rattle.etp_items.specs.Reading.{Place, opening, headed, within, after, Reads, cite_limit, lines_said, IsBody, IsReadBody, IsListed}
 use Rattle.etp_check.specs.Checks.{IsListedBody, HasContent}
 use Rattle.etp_ledger.specs.Files.{File, is_named, body_named, Stands}
 use Rattle.etp_session.specs.Bodies.{names_unbuilt, begins_unbuilt, are_all_blank}
 
 -- before the line all are blank: it alone tells
-pub unbuilt-first : (lines : List GivenLine) (l : GivenLine) → are_all_blank lines ≡ true → names_unbuilt (lines ++ l ∷ []) ≡ names_unbuilt (l ∷ [])
+pub unbuilt-first : (lines : List LineText) (l : LineText) → are_all_blank lines ≡ true → names_unbuilt (lines ++ l ∷ []) ≡ names_unbuilt (l ∷ [])
 unbuilt-first [] l h = refl
-unbuilt-first (None ∷ lines) l h = absurd (cc)
-unbuilt-first (Some line ∷ lines) l h = go (are_blank (words_of line)) refl h (unbuilt-first lines l)
+unbuilt-first (too_long ∷ lines) l h = absurd (cc)
+unbuilt-first (whole line ∷ lines) l h = go (are_blank (words_of line)) refl h (unbuilt-first lines l)
   where
     go : (b : Bool) → are_blank (words_of line) ≡ b → (if b then are_all_blank lines else false) ≡ true
         → (are_all_blank lines ≡ true → names_unbuilt (lines ++ l ∷ []) ≡ names_unbuilt (l ∷ []))
-        → names_unbuilt (Some line ∷ (lines ++ l ∷ [])) ≡ names_unbuilt (l ∷ [])
+        → names_unbuilt (whole line ∷ (lines ++ l ∷ [])) ≡ names_unbuilt (l ∷ [])
     go true e h rec = rw e (rec h)
     go false e h rec = absurd (cc)
 
 -- a line that isn't blank stands before: nothing changes
-pub unbuilt-later : (lines : List GivenLine) (l : GivenLine) → are_all_blank lines ≡ false → names_unbuilt (lines ++ l ∷ []) ≡ names_unbuilt lines
+pub unbuilt-later : (lines : List LineText) (l : LineText) → are_all_blank lines ≡ false → names_unbuilt (lines ++ l ∷ []) ≡ names_unbuilt lines
 unbuilt-later [] l h = absurd (cc)
-unbuilt-later (None ∷ lines) l h = refl
-unbuilt-later (Some line ∷ lines) l h = go (are_blank (words_of line)) refl h (unbuilt-later lines l)
+unbuilt-later (too_long ∷ lines) l h = refl
+unbuilt-later (whole line ∷ lines) l h = go (are_blank (words_of line)) refl h (unbuilt-later lines l)
   where
     go : (b : Bool) → are_blank (words_of line) ≡ b → (if b then are_all_blank lines else false) ≡ false
         → (are_all_blank lines ≡ false → names_unbuilt (lines ++ l ∷ []) ≡ names_unbuilt lines)
-        → names_unbuilt (Some line ∷ (lines ++ l ∷ [])) ≡ names_unbuilt (Some line ∷ lines)
+        → names_unbuilt (whole line ∷ (lines ++ l ∷ [])) ≡ names_unbuilt (whole line ∷ lines)
     go true e h rec = rw e (rec h)
     go false e h rec = rw e refl
 
-pub blank-first : (lines : List GivenLine) (l : GivenLine) → are_all_blank lines ≡ true → are_all_blank (lines ++ l ∷ []) ≡ are_all_blank (l ∷ [])
+pub blank-first : (lines : List LineText) (l : LineText) → are_all_blank lines ≡ true → are_all_blank (lines ++ l ∷ []) ≡ are_all_blank (l ∷ [])
 blank-first [] l h = refl
-blank-first (None ∷ lines) l h = absurd (cc)
-blank-first (Some line ∷ lines) l h = go (are_blank (words_of line)) refl h (blank-first lines l)
+blank-first (too_long ∷ lines) l h = absurd (cc)
+blank-first (whole line ∷ lines) l h = go (are_blank (words_of line)) refl h (blank-first lines l)
   where
     go : (b : Bool) → are_blank (words_of line) ≡ b → (if b then are_all_blank lines else false) ≡ true
         → (are_all_blank lines ≡ true → are_all_blank (lines ++ l ∷ []) ≡ are_all_blank (l ∷ []))
-        → are_all_blank (Some line ∷ (lines ++ l ∷ [])) ≡ are_all_blank (l ∷ [])
+        → are_all_blank (whole line ∷ (lines ++ l ∷ [])) ≡ are_all_blank (l ∷ [])
     go true e h rec = rw e (rec h)
     go false e h rec = absurd (cc)
 
-pub blank-later : (lines : List GivenLine) (l : GivenLine) → are_all_blank lines ≡ false → are_all_blank (lines ++ l ∷ []) ≡ false
+pub blank-later : (lines : List LineText) (l : LineText) → are_all_blank lines ≡ false → are_all_blank (lines ++ l ∷ []) ≡ false
 blank-later [] l h = absurd (cc)
-blank-later (None ∷ lines) l h = refl
-blank-later (Some line ∷ lines) l h = go (are_blank (words_of line)) refl h (blank-later lines l)
+blank-later (too_long ∷ lines) l h = refl
+blank-later (whole line ∷ lines) l h = go (are_blank (words_of line)) refl h (blank-later lines l)
   where
     go : (b : Bool) → are_blank (words_of line) ≡ b → (if b then are_all_blank lines else false) ≡ false
         → (are_all_blank lines ≡ false → are_all_blank (lines ++ l ∷ []) ≡ false)
-        → are_all_blank (Some line ∷ (lines ++ l ∷ [])) ≡ false
+        → are_all_blank (whole line ∷ (lines ++ l ∷ [])) ≡ false
     go true e h rec = rw e (rec h)
     go false e h rec = rw e refl
 
 -- a body of an unbuilt kind stays one
-pub unbuilt-stays : (lines : List GivenLine) (l : GivenLine) → names_unbuilt lines ≡ true → names_unbuilt (lines ++ l ∷ []) ≡ true
+pub unbuilt-stays : (lines : List LineText) (l : LineText) → names_unbuilt lines ≡ true → names_unbuilt (lines ++ l ∷ []) ≡ true
 unbuilt-stays [] l h = absurd (cc)
-unbuilt-stays (None ∷ lines) l h = absurd (cc)
-unbuilt-stays (Some line ∷ lines) l h = go (are_blank (words_of line)) refl h (unbuilt-stays lines l)
+unbuilt-stays (too_long ∷ lines) l h = absurd (cc)
+unbuilt-stays (whole line ∷ lines) l h = go (are_blank (words_of line)) refl h (unbuilt-stays lines l)
   where
     go : (b : Bool) → are_blank (words_of line) ≡ b → (if b then names_unbuilt lines else begins_unbuilt (words_of line)) ≡ true
         → (names_unbuilt lines ≡ true → names_unbuilt (lines ++ l ∷ []) ≡ true)
-        → names_unbuilt (Some line ∷ (lines ++ l ∷ [])) ≡ true
+        → names_unbuilt (whole line ∷ (lines ++ l ∷ [])) ≡ true
     go true e h rec = rw e (rec h)
     go false e h rec = rw e h
 
@@ -127,23 +128,23 @@ cite_place citing n name next h = by (nat_lt n cite_limit) h
     by false h = absurd (cc)
 
 -- cites alone don't make a proof
-no_lemma : (v w : Version) (n : ℕ) (lines : List GivenLine) (names : List (List ℕ)) → Reads (headed v n) lines (map cite names) (within w) → ⊥
+no_lemma : (v w : Version) (n : ℕ) (lines : List LineText) (names : List (List ℕ)) → Reads (headed v n) lines (map cite names) (within w) → ⊥
 no_lemma v w n [] names h = let e : within w ≡ headed v n = h.1 in absurd (cc)
-no_lemma v w n (None ∷ lines) names h = h
-no_lemma v w n (Some line ∷ lines) names (inl h) = no_lemma v w n lines names h.1
-no_lemma v w n (Some line ∷ lines) [] (inr h) = let e : [] ≡ h.0 ∷ h.2 = h.6 in absurd (cc)
-no_lemma v w n (Some line ∷ lines) (name ∷ names) (inr h) =
+no_lemma v w n (too_long ∷ lines) names h = h
+no_lemma v w n (whole line ∷ lines) names (inl h) = no_lemma v w n lines names h.1
+no_lemma v w n (whole line ∷ lines) [] (inr h) = let e : [] ≡ h.0 ∷ h.2 = h.6 in absurd (cc)
+no_lemma v w n (whole line ∷ lines) (name ∷ names) (inr h) =
     let e : cite name ∷ map cite names ≡ h.0 ∷ h.2 = h.6 in
     let said : h.0 ≡ cite name = cc in
     let more : h.2 ≡ map cite names = cc in
     let next : h.1 ≡ headed citing (n + 1) = cite_place v n name h.1 (subst (λ (l : Line). after (headed v n) l ≡ Some h.1) said h.4) in
     no_lemma citing w (n + 1) lines names (subst (λ (l : List Line). Reads (headed citing (n + 1)) lines l (within w)) more (subst (λ (q : Place). Reads q lines h.2 (within w)) next h.5))
 
-no_heading : (v w : Version) (e f : ℕ) (lines : List GivenLine) (names : List (List ℕ)) → Reads opening lines (heading v e f ∷ map cite names) (within w) → ⊥
+no_heading : (v w : Version) (e f : ℕ) (lines : List LineText) (names : List (List ℕ)) → Reads opening lines (heading v e f ∷ map cite names) (within w) → ⊥
 no_heading v w e f [] names h = let x : heading v e f ∷ map cite names ≡ [] = h.0 in absurd (cc)
-no_heading v w e f (None ∷ lines) names h = h
-no_heading v w e f (Some line ∷ lines) names (inl h) = no_heading v w e f lines names h.1
-no_heading v w e f (Some line ∷ lines) names (inr h) =
+no_heading v w e f (too_long ∷ lines) names h = h
+no_heading v w e f (whole line ∷ lines) names (inl h) = no_heading v w e f lines names h.1
+no_heading v w e f (whole line ∷ lines) names (inr h) =
     let x : heading v e f ∷ map cite names ≡ h.0 ∷ h.2 = h.6 in
     let said : h.0 ≡ heading v e f = cc in
     let more : h.2 ≡ map cite names = cc in
@@ -152,7 +153,7 @@ no_heading v w e f (Some line ∷ lines) names (inr h) =
     no_lemma v w 0 lines names (subst (λ (l : List Line). Reads (headed v 0) lines l (within w)) more (subst (λ (q : Place). Reads q lines h.2 (within w)) next h.5))
 
 -- lines that are a body have a lemma
-pub body-content : (lines : List GivenLine) (b : FileBody) → IsBody lines b → HasContent b
+pub body-content : (lines : List LineText) (b : FileBody) → IsBody lines b → HasContent b
 body-content lines (proof p) h = by p.lemmas refl
   where
     by : (ls : List Lemma) → p.lemmas ≡ ls → 0 < length p.lemmas
@@ -168,7 +169,7 @@ entry-there laws n h k =
     rw (listed, there) refl
 
 -- and its law numbers are listed
-pub body-listed : (laws : List Equation) (count : ℕ) (lines : List GivenLine) (closed : Bool) (b : FileBody) → count ≡ length laws → IsReadBody count lines closed b → IsListedBody laws b
+pub body-listed : (laws : List Equation) (count : ℕ) (lines : List LineText) (closed : Bool) (b : FileBody) → count ≡ length laws → IsReadBody count lines closed b → IsListedBody laws b
 body-listed laws count lines closed (proof p) e h =
     let hypothesis : IsListed count p.hypothesis = All-head (IsListed count) p.hypothesis (p.goal ∷ []) h.listed in
     let goal : IsListed count p.goal = All-head (IsListed count) p.goal [] (All-tail (IsListed count) p.hypothesis (p.goal ∷ []) h.listed) in

@@ -14,7 +14,7 @@ use Rattle.etp_text.proofs.OneRefusal.{one_law_refusal}
 use Rattle.etp_io.specs.Texts.{LineText}
 use Rattle.etp_replay.specs.Names.{IsName}
 use Rattle.etp_items.specs.Bodies.{FileBody}
-use Rattle.etp_items.specs.Reading.{GivenLine, IsReadBody}
+use Rattle.etp_items.specs.Reading.{IsReadBody}
 use Rattle.etp_items.proofs.OneBody.{one_body}
 use Rattle.etp_items.proofs.OneRefusal.{body_stands, one_refusal}
 use Rattle.etp_items.specs.declared.refusal.BodyRefusal.{BodyRefusal}
@@ -234,11 +234,11 @@ open-answer o l request r s f g a b =
     let one = Answers-only o l request r s a.0 b.0 a.1 b.1 in
     (one.0, a.2 ∙ ap (λ (k : List File). over (record { laws = o.laws; files = k })) one.1 ∙ sym b.2, subst IsRightState (sym a.2) l)
 
-one_body_lines : (limit : ℕ) (kept : Option (List ℕ)) (a b : List GivenLine) → HasLines limit a kept → HasLines limit b kept → a ≡ b
+one_body_lines : (limit : ℕ) (kept : Option (List ℕ)) (a b : List LineText) → HasLines limit a kept → HasLines limit b kept → a ≡ b
 one_body_lines limit None a b h k = absurd h
 one_body_lines limit (Some bytes) a b h k = h.1 ∙ sym k.1
 
-lines_or_missing : (limit : ℕ) (kept : Option (List ℕ)) (a : List GivenLine) → HasLines limit a kept → IsMissing limit kept → ⊥
+lines_or_missing : (limit : ℕ) (kept : Option (List ℕ)) (a : List LineText) → HasLines limit a kept → IsMissing limit kept → ⊥
 lines_or_missing limit None a h m = h
 lines_or_missing limit (Some bytes) a h m = omega (arith, h.0, m)
 
@@ -260,7 +260,7 @@ load_reply-only limit kept o l n word r s f g (unreached x h a e) (missing k m b
 load_reply-only limit kept o l n word r s f g (loaded lines x h m a e) (unreached y k b i) = absurd (k h)
 load_reply-only limit kept o l n word r s f g (loaded lines x h m a e) (loaded more y k v b i) =
     let same : more ≡ lines = one_body_lines limit (kept word) more lines v m in
-    file-state o l (loading n word lines) r s x y f g a (subst (λ (ls : List GivenLine). FileReply o (loading n word ls) true s y) same b) e i
+    file-state o l (loading n word lines) r s x y f g a (subst (λ (ls : List LineText). FileReply o (loading n word ls) true s y) same b) e i
 load_reply-only limit kept o l n word r s f g (loaded lines x h m a e) (missing k v b i) = absurd (lines_or_missing limit (kept word) lines m v)
 load_reply-only limit kept o l n word r s f g (missing h m a e) (unreached y k b i) = absurd (k h)
 load_reply-only limit kept o l n word r s f g (missing h m a e) (loaded lines y k v b i) = absurd (lines_or_missing limit (kept word) lines v m)

@@ -1,7 +1,7 @@
 -- The lines of a name on the shelf, as they are read.
-use Rattle.std.proofs.Common.{◌≡◌, ℕ, ◌+◌, ◌-◌, ◌≤◌, ◌<◌, List, [], ◌∷◌, ◌++◌, length, drop, map, Option, None, Some, Bool, true, false, IsTrue, refl, sym, ◌∙◌, ap, subst, arith, append_assoc, append-nil}
-use Rattle.std.proofs.lemmas.List.{length-drop, map-append}
-use Rattle.std.specs.Option.{IfSome, option_copied}
+use Rattle.std.proofs.Common.{◌≡◌, ℕ, ◌+◌, ◌-◌, ◌≤◌, ◌<◌, List, [], ◌∷◌, ◌++◌, length, drop, Option, None, Some, Bool, true, false, IsTrue, refl, sym, ◌∙◌, ap, subst, arith, append_assoc, append-nil}
+use Rattle.std.proofs.lemmas.List.{length-drop}
+use Rattle.std.specs.Option.{IfSome}
 use Rattle.std.specs.Borrow.{Bor}
 use Rattle.std.specs.Io.KnownBytes.{IsAtEnd, prepend_known}
 use Rattle.etp_io.specs.Texts.{LineText, lines_of, to_last_newline}
@@ -13,37 +13,35 @@ use Rattle.etp_io.specs.Answers.{FitsAt, GivesLines, PartGives, to_come, says}
 use Rattle.etp_io.specs.declared.lines.Next.{Next}
 use Rattle.etp_io.specs.declared.lines.Next.TheVariants.{End}
 use Rattle.etp_io.proofs.Laws.{Loses-none, lines_of-append}
-use Rattle.etp_items.specs.Reading.{GivenLine}
-use Rattle.etp_session.specs.Bodies.{body_line}
+use Rattle.etp_items.specs.Reading.{given_text}
 use Rattle.etp_session.specs.States as States
-use Rattle.etp_session.specs.Shelves.{KnownShelf, body_lines, HasLines, IsLong, IsTooLong}
+use Rattle.etp_session.specs.Shelves.{KnownShelf, HasLines, IsLong, IsTooLong}
 use Rattle.etp_session.specs.Ends.{Takes}
-use Rattle.etp_session.specs.Given.{given_text, line_text}
+use Rattle.etp_session.specs.Given.{line_text}
 use Rattle.etp_session.specs.Desks.{IsFiling}
 use Rattle.etp_session.specs.Filings.{with_line}
 use Rattle.etp_session.specs.Outcomes.{with_lines, LoadedLines}
 use Rattle.etp_session.specs.declared.desk.Opened.{Opened}
 use Rattle.etp_session.specs.declared.desk.Filing.{Filing}
 use Rattle.etp_session.proofs.Parts.{to_last_newline-both}
-use Rattle.etp_session.proofs.StateAnswers.{body_line-given}
 use Rattle.etp_session.proofs.Running.{takes-more, no_part, at-end, says-line}
 
 -- a part of the bytes has these body lines, and others are to come
-pub record PartLines (ended : Bool) (bytes coming : List ℕ) (lines : List GivenLine) : Type 0 where
+pub record PartLines (ended : Bool) (bytes coming : List ℕ) (lines : List LineText) : Type 0 where
   pub part : List ℕ
   pub joined : bytes ≡ part ++ coming
-  pub lines_are : lines ≡ body_lines part
+  pub lines_are : lines ≡ lines_of part
   pub newline : ended ≡ false → to_last_newline part ≡ part
   pub over : IsTrue ended → coming ≡ []
 
-abbrev pub KnownLines : Bool → Option (List ℕ) → Option (List ℕ) → List GivenLine → Type 0
+abbrev pub KnownLines : Bool → Option (List ℕ) → Option (List ℕ) → List LineText → Type 0
 KnownLines ended None coming lines = Unit {0}
 KnownLines ended (Some bytes) None lines = ⊥
 KnownLines ended (Some bytes) (Some coming) lines = PartLines ended bytes coming lines
 
 -- a name is read
 pub record Loading (limit : ℕ) (keeps : Option (List ℕ → Option (List ℕ))) (name : List ℕ) (first now : Filing) (given_before given : ℕ) (reader : Reader) : Type 0 where
-  pub lines : List GivenLine
+  pub lines : List LineText
   pub pending : (o : Opened) (g : States.Filing) → IsFiling o first g → IsFiling o now (with_lines g lines)
   pub sofar : KnownLines reader.ended (left_at keeps name 0) (to_come reader (left_at keeps name reader.taken)) lines
   pub fits : FitsAt reader keeps name
@@ -58,7 +56,7 @@ pub starts-loading : (limit : ℕ) (keeps : Option (List ℕ → Option (List �
     → Loading limit keeps name f f given given reader
 starts-loading limit keeps name f given reader e = rw e (record {
   lines = [];
-  pending = λ o g h. subst (λ (lines : List GivenLine). IsFiling o f (record { number = g.number; word = g.word; lines = lines })) (sym (append-nil g.lines)) h;
+  pending = λ o g h. subst (λ (lines : List LineText). IsFiling o f (record { number = g.number; word = g.word; lines = lines })) (sym (append-nil g.lines)) h;
   sofar = known (left_at keeps name 0);
   fits = record { at_end = λ h. absurd (false_is_true h); lacking = λ h. (refl, refl) };
   open_still = refl;
@@ -76,8 +74,8 @@ starts-loading limit keeps name f given reader e = rw e (record {
     known (Some bytes) = record { part = []; joined = refl; lines_are = refl; newline = λ e. refl; over = λ h. absurd (false_is_true h) }
 
 -- a line more
-part-then : (ended ended' : Bool) (bytes coming coming' : List ℕ) (lines : List GivenLine) (line : LineText) → PartLines ended bytes coming lines → PartGives ended' coming coming' (line ∷ [])
-    → PartLines ended' bytes coming' (lines ++ body_line line ∷ [])
+part-then : (ended ended' : Bool) (bytes coming coming' : List ℕ) (lines : List LineText) (line : LineText) → PartLines ended bytes coming lines → PartGives ended' coming coming' (line ∷ [])
+    → PartLines ended' bytes coming' (lines ++ line ∷ [])
 part-then true ended' bytes coming coming' lines line h g =
     let none : g.part ≡ [] = no_part g.part coming' (sym (h.over refl) ∙ g.joined) in
     let both : [] ≡ line ∷ [] = sym (ap lines_of none) ∙ g.lines in
@@ -88,13 +86,13 @@ part-then false ended' bytes coming coming' lines line h g =
     record {
       part = h.part ++ g.part;
       joined = h.joined ∙ ap (λ (l : List ℕ). h.part ++ l) g.joined ∙ sym (append_assoc h.part g.part coming');
-      lines_are = ap (λ (l : List GivenLine). l ++ body_line line ∷ []) h.lines_are ∙ sym (map-append body_line (lines_of h.part) (line ∷ [])) ∙ ap (map body_line) (sym all);
+      lines_are = ap (λ (l : List LineText). l ++ line ∷ []) h.lines_are ∙ sym all;
       newline = λ open_still. to_last_newline-both h.part g.part whole (g.newline open_still);
       over = g.over;
     }
 
-known-then : (ended ended' : Bool) (told coming coming' : Option (List ℕ)) (lines : List GivenLine) (line : LineText) → KnownLines ended told coming lines → GivesLines ended' coming coming' (line ∷ [])
-    → KnownLines ended' told coming' (lines ++ body_line line ∷ [])
+known-then : (ended ended' : Bool) (told coming coming' : Option (List ℕ)) (lines : List LineText) (line : LineText) → KnownLines ended told coming lines → GivesLines ended' coming coming' (line ∷ [])
+    → KnownLines ended' told coming' (lines ++ line ∷ [])
 known-then ended ended' None coming coming' lines line h g = tt
 known-then ended ended' (Some bytes) None coming' lines line h g = absurd h
 known-then ended ended' (Some bytes) (Some c) None lines line h g = absurd g
@@ -109,16 +107,15 @@ pub loading-then : (limit : ℕ) (keeps : Option (List ℕ → Option (List ℕ)
     → r'.fault ≡ None → SaysTooMuch r'.limit r'.taken r'.fault → r'.limit ≡ r.limit → r'.number ≤ r'.taken → r.taken ≤ r'.taken
     → Loses (left_at keeps name r.taken) (left_at keeps name r'.taken) (r'.taken - r.taken) → RisesBy g g' (r'.taken - r.taken)
     → given_text line ≡ line_text next r'.line
-    → ((o : Opened) (f : States.Filing) → IsFiling o now f → IsFiling o then (with_line f (option_copied line)))
+    → ((o : Opened) (f : States.Filing) → IsFiling o now f → IsFiling o then (with_line f (given_text line)))
     → Loading limit keeps name first then g0 g' r'
 loading-then limit keeps name first now then g0 g g' r r' next line h fits lines more number fault says_fault same_limit counted later loses given text taken =
     let one : says next r'.line ≡ line_text next r'.line ∷ [] = says-line next r'.line more in
     let within : r'.taken ≤ r'.limit = rw fault at says_fault in
-    let same : body_line (line_text next r'.line) ≡ option_copied line = ap body_line (sym text) ∙ body_line-given line in
     record {
-      lines = h.lines ++ body_line (line_text next r'.line) ∷ [];
-      pending = λ o f p. subst (λ (ls : List GivenLine). IsFiling o then (record { number = f.number; word = f.word; lines = ls }))
-          (append_assoc f.lines h.lines (option_copied line ∷ []) ∙ ap (λ (l : GivenLine). f.lines ++ (h.lines ++ l ∷ [])) (sym same)) (taken o (with_lines f h.lines) (h.pending o f p));
+      lines = h.lines ++ line_text next r'.line ∷ [];
+      pending = λ o f p. subst (λ (ls : List LineText). IsFiling o then (record { number = f.number; word = f.word; lines = ls }))
+          (append_assoc f.lines h.lines (given_text line ∷ []) ∙ ap (λ (l : LineText). f.lines ++ (h.lines ++ l ∷ [])) text) (taken o (with_lines f h.lines) (h.pending o f p));
       sofar = known-then r.ended r'.ended (left_at keeps name 0) (to_come r (left_at keeps name r.taken)) (to_come r' (left_at keeps name r'.taken)) h.lines (line_text next r'.line) h.sofar (rw one at (lines h.fits));
       fits = fits h.fits;
       open_still = fault;
@@ -129,20 +126,20 @@ loading-then limit keeps name first now then g0 g g' r r' next line h fits lines
     }
 
 -- it was read to its end
-all-lines : (ended ended' : Bool) (bytes coming coming' : List ℕ) (lines : List GivenLine) → PartLines ended bytes coming lines → PartGives ended' coming coming' [] → coming' ≡ [] → lines ≡ body_lines bytes
+all-lines : (ended ended' : Bool) (bytes coming coming' : List ℕ) (lines : List LineText) → PartLines ended bytes coming lines → PartGives ended' coming coming' [] → coming' ≡ [] → lines ≡ lines_of bytes
 all-lines true ended' bytes coming coming' lines h g a =
     let same : bytes ≡ h.part = h.joined ∙ ap (λ (l : List ℕ). h.part ++ l) (h.over refl) ∙ append-nil h.part in
-    h.lines_are ∙ ap body_lines (sym same)
+    h.lines_are ∙ ap lines_of (sym same)
 all-lines false ended' bytes coming coming' lines h g a =
     let rest : lines_of coming ≡ [] = ap lines_of (g.joined ∙ ap (λ (l : List ℕ). g.part ++ l) a ∙ append-nil g.part) ∙ g.lines in
     let all : lines_of bytes ≡ lines_of h.part = ap lines_of h.joined ∙ lines_of-append h.part coming (h.newline refl) ∙ rw rest (append-nil (lines_of h.part)) in
-    h.lines_are ∙ ap (map body_line) (sym all)
+    h.lines_are ∙ sym all
 
 -- so many bytes at most, and these lines
-abbrev Has : ℕ → List GivenLine → List ℕ → Type 0
-Has limit lines bytes = (length bytes ≤ limit) × (lines ≡ body_lines bytes)
+abbrev Has : ℕ → List LineText → List ℕ → Type 0
+Has limit lines bytes = (length bytes ≤ limit) × (lines ≡ lines_of bytes)
 
-known-all : (limit taken : ℕ) (ended ended' : Bool) (told coming coming' left : Option (List ℕ)) (lines : List GivenLine) → KnownLines ended told coming lines → GivesLines ended' coming coming' [] → IsAtEnd coming'
+known-all : (limit taken : ℕ) (ended ended' : Bool) (told coming coming' left : Option (List ℕ)) (lines : List LineText) → KnownLines ended told coming lines → GivesLines ended' coming coming' [] → IsAtEnd coming'
     → Loses told left taken → IsAtEnd left → taken ≤ limit → IfSome told (Has limit lines)
 known-all limit taken ended ended' None coming coming' left lines h g a l b few = tt
 known-all limit taken ended ended' (Some bytes) None coming' left lines h g a l b few = absurd h
@@ -154,7 +151,7 @@ known-all limit taken ended ended' (Some bytes) (Some c) (Some d) (Some left) li
     (omega (arith, size, few), all-lines ended ended' bytes c d lines h g a)
 
 -- the name is there where some read of it gave an answer
-there-lines : (limit : ℕ) (keeps : Option (List ℕ → Option (List ℕ))) (name : List ℕ) (lines : List GivenLine) → (Lacks keeps name → ⊥) → IfSome (left_at keeps name 0) (Has limit lines)
+there-lines : (limit : ℕ) (keeps : Option (List ℕ → Option (List ℕ))) (name : List ℕ) (lines : List LineText) → (Lacks keeps name → ⊥) → IfSome (left_at keeps name 0) (Has limit lines)
     → IfSome keeps (λ kept. HasLines limit lines (kept name))
 there-lines limit None name lines n h = tt
 there-lines limit (Some kept) name lines n h = by (kept name) refl

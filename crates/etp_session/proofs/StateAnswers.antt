@@ -1,20 +1,19 @@
 -- What lines come to, from the parts that give it, by the state before the line.
 use Rattle.std.proofs.Common.{◌≡◌, ℕ, ◌<◌, ◌≤◌, List, [], length, refl, sym, ◌∙◌, ap, subst, Option, None, Some, Bool, true, false, ◌||◌}
-use Rattle.std.specs.Option.{option_copied}
 use Rattle.std.proofs.lemmas.Option.{slice_get_within}
 use Rattle.std.specs.Prelude.{MatchOption, IfOk, Ok, Err, Result}
 use Rattle.std.specs.Borrow.{Bor}
 use Rattle.etp_io.specs.Texts.{LineText}
-use Rattle.etp_items.specs.Reading.{GivenLine}
 use Rattle.etp_ledger.specs.Files.{File}
+use Rattle.etp_items.specs.Reading.{given_text}
 use Rattle.etp_session.specs.Requests.{Request, asked}
 use Rattle.etp_session.specs.Texts.{Reply, silent}
 use Rattle.etp_session.specs.States as States
 use Rattle.etp_session.specs.States.{State, Opens, unopened, over, filing, stopped}
-use Rattle.etp_session.specs.Bodies.{HasFreeName, closes_body, body_line, goes_on, closes}
+use Rattle.etp_session.specs.Bodies.{HasFreeName, closes_body, goes_on, closes}
 use Rattle.etp_session.specs.Shelves.{KnownShelf, IsLoaded}
 use Rattle.etp_session.specs.Replies.{LoadReply, unreached, loaded, loading, OpenReply, FirstReply, Reaches}
-use Rattle.etp_session.specs.Given.{given_text, GivesState, GivesFile, GivesClose}
+use Rattle.etp_session.specs.Given.{GivesState, GivesFile, GivesClose}
 use Rattle.etp_session.specs.Desks.{opened_of, IsFiling, IsStage}
 use Rattle.etp_session.specs.Filings.{with_line, Leaves}
 use Rattle.etp_session.specs.Outcomes.{LoadsFile, IsOutcome, IsLoad, IsFirstLoad, OpenedReply, LineOutcome, IsToLoad, LoadedLines}
@@ -23,10 +22,6 @@ use Rattle.etp_session.specs.declared.desk.Filing.{Filing}
 use Rattle.etp_session.specs.declared.reply.Outcome.{Outcome}
 use Rattle.etp_session.specs.declared.serving.Ending.{Ending}
 use Rattle.etp_session.specs.declared.reply.Outcome.TheVariants.{Replied, Reads, Loads}
-
-pub body_line-given : (line : Option (Bor (List ℕ))) → body_line (given_text line) ≡ option_copied line
-body_line-given None = refl
-body_line-given (Some line) = refl
 
 pub IfOk-ends : {A : Type 0} (r : Result A Ending) (P Q : A → Type 0) → ((a : A) → P a → Q a) → IfOk r P → IfOk r Q
 IfOk-ends (Ok x) P Q f h = f x h
@@ -94,15 +89,15 @@ closes-body s o p f n line text flag state t at give =
 -- any other line is one of the body
 pub goes-on-body : (s : KnownShelf) (o : Opened) (f next : Filing) (n : ℕ) (line : Option (Bor (List ℕ))) (text : List ℕ) (state : State) → closes_body (given_text line) ≡ false → text ≡ []
     → ((g : States.Filing) × IsFiling o f g × (state ≡ filing (opened_of o) g))
-    → ((p : Opened) (g : States.Filing) → IsFiling p f g → IsFiling p next (with_line g (option_copied line)))
+    → ((p : Opened) (g : States.Filing) → IsFiling p f g → IsFiling p next (with_line g (given_text line)))
     → LineOutcome s state n (given_text line) text (Some o) (Reads next)
 goes-on-body s o f next n line text state t none at more =
     let g = at.0 in
     subst (λ (before : State). LineOutcome s before n (given_text line) text (Some o) (Reads next)) (sym at.2) (record {
       reply = silent;
-      after = filing (opened_of o) (with_line g (option_copied line));
-      replies = goes_on t refl (ap (λ (l : GivenLine). filing (opened_of o) (with_line g l)) (sym (body_line-given line)));
-      stands = (with_line g (option_copied line), more o g at.1, refl);
+      after = filing (opened_of o) (with_line g (given_text line));
+      replies = goes_on t refl refl;
+      stands = (with_line g (given_text line), more o g at.1, refl);
       text_is = none;
       refused_is = refl;
     })
@@ -121,7 +116,7 @@ refuses-load s o p n word text flag taken h = record {
 }
 
 -- the file was read from the shelf
-pub answers-load : (s : KnownShelf) (o p : Opened) (n : ℕ) (word text : List ℕ) (flag : Bool) (lines : List GivenLine) → HasFreeName o.ledger.files (Some word) word → IsLoaded s word lines
+pub answers-load : (s : KnownShelf) (o p : Opened) (n : ℕ) (word text : List ℕ) (flag : Bool) (lines : List LineText) → HasFreeName o.ledger.files (Some word) word → IsLoaded s word lines
     → GivesFile (opened_of o) (loading n word lines) true text flag (Leaves o p)
     → GivesState n text flag (LoadReply s (opened_of o) n word) (IsStage (Some p) None)
 answers-load s o p n word text flag lines free there h = record {

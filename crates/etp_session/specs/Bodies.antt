@@ -6,7 +6,7 @@ use Rattle.etp_io.specs.Texts.{LineText, whole, too_long}
 use Rattle.etp_replay.specs.Names.{IsName}
 use Rattle.etp_items.specs.Bodies.{FileBody}
 use Rattle.etp_items.specs.BodyLines.{are_blank}
-use Rattle.etp_items.specs.Reading.{GivenLine, IsReadBody, Refuses}
+use Rattle.etp_items.specs.Reading.{IsReadBody, Refuses}
 use Rattle.etp_items.specs.declared.refusal.BodyRefusal.{BodyRefusal}
 use Rattle.etp_check.specs.Checks.{fact_said}
 use Rattle.etp_theory.specs.Reach.{Fact, implies, refutes}
@@ -33,11 +33,6 @@ abbrev pub closes_body : LineText → Bool
 closes_body too_long = false
 closes_body (whole line) = is_end (words_of line)
 
--- a line as one of a body: None for a long one
-abbrev pub body_line : LineText → Option (List ℕ)
-body_line too_long = None
-body_line (whole line) = Some line
-
 -- the first words of the bodies of kinds that aren't built yet
 abbrev pub unbuilt_kinds : List (List ℕ)
 unbuilt_kinds = codes "table" ∷ codes "linear" ∷ codes "rules" ∷ []
@@ -47,16 +42,16 @@ begins_unbuilt [] = false
 begins_unbuilt (word ∷ words) = list_any (is_word word) unbuilt_kinds
 
 -- the first line that isn't blank begins with such a word
-abbrev pub names_unbuilt : List GivenLine → Bool
+abbrev pub names_unbuilt : List LineText → Bool
 names_unbuilt [] = false
-names_unbuilt (None ∷ lines) = false
-names_unbuilt (Some line ∷ lines) = if are_blank (words_of line) then names_unbuilt lines else begins_unbuilt (words_of line)
+names_unbuilt (too_long ∷ lines) = false
+names_unbuilt (whole line ∷ lines) = if are_blank (words_of line) then names_unbuilt lines else begins_unbuilt (words_of line)
 
 -- all lines are blank
-abbrev pub are_all_blank : List GivenLine → Bool
+abbrev pub are_all_blank : List LineText → Bool
 are_all_blank [] = true
-are_all_blank (None ∷ lines) = false
-are_all_blank (Some line ∷ lines) = if are_blank (words_of line) then are_all_blank lines else false
+are_all_blank (too_long ∷ lines) = false
+are_all_blank (whole line ∷ lines) = if are_blank (words_of line) then are_all_blank lines else false
 
 -- the word is to be a name and is none, or there isn't one word
 abbrev pub HasNoName : Option (List ℕ) → Type 0
@@ -113,6 +108,6 @@ pub data FileReply (o : Opened) (f : Filing) (closed : Bool) (reply : Reply) (af
 -- the reply to a line of a body: none, until `end` closes it
 pub data BodyReply (o : Opened) (f : Filing) (line : LineText) (reply : Reply) (after : State) : Type 0 where
   goes_on : closes_body line ≡ false → reply ≡ silent
-      → after ≡ filing o (record { number = f.number; word = f.word; lines = f.lines ++ body_line line ∷ [] }) → BodyReply o f line reply after
+      → after ≡ filing o (record { number = f.number; word = f.word; lines = f.lines ++ line ∷ [] }) → BodyReply o f line reply after
   closes : (files : List File) → closes_body line ≡ true → FileReply o f true reply files
       → after ≡ over (record { laws = o.laws; files = files }) → BodyReply o f line reply after

@@ -1,9 +1,9 @@
 -- What the parts of a file's handling give.
-use Rattle.std.specs.Prelude.{◌≡◌, ℕ, List, [], ◌∷◌, ◌++◌, codes, if◌then◌else◌, None, Some}
+use Rattle.std.specs.Prelude.{◌≡◌, ℕ, List, [], ◌∷◌, ◌++◌, codes, if◌then◌else◌}
+use Rattle.etp_io.specs.Texts.{LineText, whole, too_long}
 use Rattle.etp_theory.specs.Reach.{Fact, implies}
 use Rattle.etp_items.specs.Words.{words_of}
 use Rattle.etp_items.specs.BodyLines.{are_blank}
-use Rattle.etp_items.specs.Reading.{GivenLine}
 use Rattle.etp_ledger.specs.Files.{File}
 use Rattle.etp_session.specs.States.{Filing}
 use Rattle.etp_session.specs.Bodies.{begins_unbuilt, said_text}
@@ -14,12 +14,12 @@ use Rattle.etp_session.specs.declared.filing.Begins.{Begins}
 use Rattle.etp_session.specs.declared.filing.Begins.TheVariants.{Blank, NotBuilt, Other}
 
 -- what a first line begins with
-abbrev pub begins_as : GivenLine → Begins
-begins_as None = Other
-begins_as (Some line) = if are_blank (words_of line) then Blank else (if begins_unbuilt (words_of line) then NotBuilt else Other)
+abbrev pub begins_as : LineText → Begins
+begins_as too_long = Other
+begins_as (whole line) = if are_blank (words_of line) then Blank else (if begins_unbuilt (words_of line) then NotBuilt else Other)
 
 -- the file with one body line more
-abbrev pub with_line : Filing → GivenLine → Filing
+abbrev pub with_line : Filing → LineText → Filing
 with_line g line = record { number = g.number; word = g.word; lines = g.lines ++ line ∷ [] }
 
 -- the same laws, with these files

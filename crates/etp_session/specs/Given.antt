@@ -2,8 +2,7 @@
 use Rattle.std.specs.Prelude.{◌≡◌, ◌≢◌, ℕ, ◌+◌, ◌-◌, ◌^◌, ◌≤◌, min, List, [], ◌++◌, Bool, true, false, ◌||◌, codes, slice_get}
 use Rattle.std.specs.declared.option.Option.{Option}
 use Rattle.std.specs.Io.KnownBytes.{Appends}
-use Rattle.std.specs.Prelude.{None, Some}
-use Rattle.std.specs.Borrow.{Bor}
+use Rattle.std.specs.Prelude.{Some}
 use Rattle.etp_io.specs.declared.lines.Next.{Next}
 use Rattle.etp_io.specs.declared.lines.Next.TheVariants.{Line, Long, End}
 use Rattle.etp_io.specs.Stream.{IsPrefix}
@@ -22,11 +21,6 @@ abbrev pub line_text : Next → List ℕ → LineText
 line_text Line line = whole line
 line_text Long line = too_long
 line_text End line = too_long
-
--- a line that is given: None is a long one
-abbrev pub given_text : Option (Bor (List ℕ)) → LineText
-given_text None = too_long
-given_text (Some line) = whole line.now
 
 -- a reply of which `Is` holds has this text
 pub record Gives (n : ℕ) (text : List ℕ) (refused : Bool) (Is : Reply → Type 0) : Type 0 where

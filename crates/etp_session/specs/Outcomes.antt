@@ -1,7 +1,6 @@
 -- What a line comes to: a reply, a file whose lines follow, or one that is on the shelf.
 use Rattle.std.specs.Prelude.{◌≡◌, ℕ, List, [], ◌++◌, false, None, Some, MatchOption}
 use Rattle.std.specs.declared.option.Option.{Option}
-use Rattle.etp_items.specs.Reading.{GivenLine}
 use Rattle.etp_session.specs.Texts.{Reply}
 use Rattle.etp_session.specs.States as States
 use Rattle.etp_session.specs.States.{State, Opens}
@@ -48,12 +47,12 @@ abbrev pub LineOutcome : KnownShelf → State → ℕ → LineText → List ℕ 
 LineOutcome s state n line text opened outcome = IsOutcome s (answered_line state n) text opened (Replies s state n line) (Reaches state line) outcome
 
 -- a file with body lines more
-abbrev pub with_lines : States.Filing → List GivenLine → States.Filing
+abbrev pub with_lines : States.Filing → List LineText → States.Filing
 with_lines g lines = record { number = g.number; word = g.word; lines = g.lines ++ lines }
 
 -- the lines of a name on the shelf were added to a file that is read
 pub record LoadedLines (s : KnownShelf) (name : List ℕ) (before now : Filing) : Type 0 where
-  pub lines : List GivenLine
+  pub lines : List LineText
   pub loaded : IsLoaded s name lines
   pub pending : (o : Opened) (g : States.Filing) → IsFiling o before g → IsFiling o now (with_lines g lines)
 

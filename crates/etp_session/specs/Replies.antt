@@ -15,7 +15,6 @@ use Rattle.etp_session.specs.RefusalTexts.{text_refusal}
 use Rattle.etp_session.specs.Requests.{Request, blank, long, order, law, number, dual, ask, file, load, withdraw, files, counts, not_built, bad, asked}
 use Rattle.etp_session.specs.States.{Opened, Opens, Filing, State, unopened, over, filing, stopped}
 use Rattle.etp_session.specs.LedgerReplies.{AskReply, CountsReply, files_text, WithdrawReply}
-use Rattle.etp_items.specs.Reading.{GivenLine}
 use Rattle.etp_session.specs.Bodies.{BodyReply, FileReply, HasFreeName}
 use Rattle.etp_session.specs.Shelves.{KnownShelf, IsLoaded, HasNoLines}
 
@@ -62,7 +61,7 @@ Answers o not_built reply after = (reply ≡ refused (codes "not built")) × (af
 Answers o bad reply after = (reply ≡ refused (codes "bad line")) × (after ≡ o.files)
 
 -- a file that line n loads under this word, with these body lines
-abbrev pub loading : ℕ → List ℕ → List GivenLine → Filing
+abbrev pub loading : ℕ → List ℕ → List LineText → Filing
 loading n word lines = record { number = n; word = Some word; lines = lines }
 
 -- The reply to line n, which loads a file. The shelf is reached only where the word is a name and is
@@ -71,7 +70,7 @@ loading n word lines = record { number = n; word = Some word; lines = lines }
 pub data LoadReply (s : KnownShelf) (o : Opened) (n : ℕ) (word : List ℕ) (reply : Reply) (after : State) : Type 0 where
   unreached : (files : List File) → (HasFreeName o.files (Some word) word → ⊥) → FileReply o (loading n word []) true reply files
       → after ≡ over (record { laws = o.laws; files = files }) → LoadReply s o n word reply after
-  loaded : (lines : List GivenLine) (files : List File) → HasFreeName o.files (Some word) word → IsLoaded s word lines
+  loaded : (lines : List LineText) (files : List File) → HasFreeName o.files (Some word) word → IsLoaded s word lines
       → FileReply o (loading n word lines) true reply files
       → after ≡ over (record { laws = o.laws; files = files }) → LoadReply s o n word reply after
   missing : HasFreeName o.files (Some word) word → HasNoLines s word → reply ≡ silent → after ≡ stopped → LoadReply s o n word reply after

@@ -1,9 +1,7 @@
 -- The body lines that a name on the shelf has.
-use Rattle.std.specs.Prelude.{◌≡◌, ℕ, ◌≤◌, ◌<◌, List, length, map, None, Some, IfSome, MatchOption, ⊤}
+use Rattle.std.specs.Prelude.{◌≡◌, ℕ, ◌≤◌, ◌<◌, List, length, None, Some, IfSome, MatchOption, ⊤}
 use Rattle.std.specs.declared.option.Option.{Option}
-use Rattle.etp_io.specs.Texts.{lines_of}
-use Rattle.etp_items.specs.Reading.{GivenLine}
-use Rattle.etp_session.specs.Bodies.{body_line}
+use Rattle.etp_io.specs.Texts.{lines_of, LineText}
 
 -- what is known of the shelf: the most bytes of a name, and the bytes of each name that is there,
 -- where it tells them
@@ -11,14 +9,10 @@ pub record KnownShelf : Type 0 where
   pub limit : ℕ
   pub keeps : Option (List ℕ → Option (List ℕ))
 
--- the lines of bytes as those of a body
-abbrev pub body_lines : List ℕ → List GivenLine
-body_lines bytes = map body_line (lines_of bytes)
-
 -- the name is there with at most so many bytes, and they are these lines
-abbrev pub HasLines : ℕ → List GivenLine → Option (List ℕ) → Type 0
+abbrev pub HasLines : ℕ → List LineText → Option (List ℕ) → Type 0
 HasLines limit lines None = ⊥
-HasLines limit lines (Some bytes) = (length bytes ≤ limit) × (lines ≡ body_lines bytes)
+HasLines limit lines (Some bytes) = (length bytes ≤ limit) × (lines ≡ lines_of bytes)
 
 -- the name is there with more bytes
 abbrev pub IsLong : ℕ → Option (List ℕ) → Type 0
@@ -31,7 +25,7 @@ IsMissing limit None = ⊤
 IsMissing limit (Some bytes) = limit < length bytes
 
 -- a name has these body lines on the shelf; any, where the shelf doesn't tell
-abbrev pub IsLoaded : KnownShelf → List ℕ → List GivenLine → Type 0
+abbrev pub IsLoaded : KnownShelf → List ℕ → List LineText → Type 0
 IsLoaded s name lines = IfSome s.keeps (λ kept. HasLines s.limit lines (kept name))
 
 -- it has none that are read

@@ -1,9 +1,9 @@
 -- What stands between two lines of a session.
 use Rattle.std.specs.Prelude.{◌≡◌, ℕ, List, []}
+use Rattle.etp_io.specs.Texts.{LineText}
 use Rattle.std.specs.declared.option.Option.{Option}
 use Rattle.etp_laws.specs.Listing.{IsTheList}
 use Rattle.etp_laws.specs.LawLists.{LawList, AreDuals}
-use Rattle.etp_items.specs.Reading.{GivenLine}
 use Rattle.etp_ledger.specs.Files.{File}
 
 -- the list of laws with the numbers of their duals, and the files that stand
@@ -23,7 +23,7 @@ pub record Opens (order : ℕ) (o : Opened) : Type 0 where
 pub record Filing : Type 0 where
   pub number : ℕ
   pub word : Option (List ℕ)
-  pub lines : List GivenLine
+  pub lines : List LineText
 
 -- Before the first line that isn't blank nothing stands, then the laws and the files, and a body
 -- while one is read. The text is over before a `load` whose name isn't there.

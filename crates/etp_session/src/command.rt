@@ -1,6 +1,7 @@
 ghost use Rattle.std.specs.Prelude.{ℕ, ◌≡◌, ◌≤◌, ◌<◌, ◌++◌, ◌∷◌, ◌⊎◌, [], take, drop, length, IfSome, MatchOption, None, Some, not, true};
 ghost use Rattle.std.specs.List.{list_any};
-ghost use Rattle.etp_items.specs.Words.{words_of, skip_blanks, is_word};
+ghost use Rattle.etp_text.specs.Machine.{skip_blanks};
+ghost use Rattle.etp_items.specs.Words.{words_of, is_word};
 ghost use Rattle.etp_session.specs.Requests.{Request, request_of, only_number, only_word, law_request, dual_request, order_request, number_request, ask_request, pair_request, load_request, withdraw_request, lone_request, unbuilt};
 ghost use Rattle.etp_session.specs.Requests.{ledger_request};
 ghost use Rattle.etp_session.specs.Commands.{request_from, pair_from, operations_of, IsWithin};

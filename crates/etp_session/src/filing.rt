@@ -6,11 +6,11 @@ ghost use Rattle.etp_items.specs.Words.{is_word};
 ghost use Rattle.etp_session.specs.Texts.{reply_text, refused};
 ghost use Rattle.etp_session.specs.States.{Filing as FilingOf};
 ghost use Rattle.etp_items.specs.Bodies.{body_of};
-ghost use Rattle.etp_items.specs.Reading.{IsReadBody};
+ghost use Rattle.etp_items.specs.Reading.{IsReadBody, given_text};
 ghost use Rattle.etp_check.specs.Checks.{fact_said, IsListedBody, HasContent};
 ghost use Rattle.etp_session.specs.RefusalTexts.{body_refusal};
 ghost use Rattle.etp_session.specs.Bodies.{closes_body, refused_file, file_refusal, unbuilt_kinds, HasFreeName, names_unbuilt};
-ghost use Rattle.etp_session.specs.Given.{given_text, GivesFile};
+ghost use Rattle.etp_session.specs.Given.{GivesFile};
 ghost use Rattle.etp_session.specs.Desks.{opened_of, Agrees, IsReading, IsPending, IsFiling};
 ghost use Rattle.etp_session.specs.Replies.{loading};
 ghost use Rattle.etp_session.specs.Filings.{begins_as, with_line, Leaves, fact_from, accepted_with};
@@ -55,7 +55,7 @@ fn laws_said(body: &Body) -> Said
 }
 
 fn beginning(line: Option<&[u8]>) -> Begins
-    ensures { result ≡ begins_as (option_copied line.entry) }
+    ensures { result ≡ begins_as (given_text line.entry) }
 {
     let Some(line) = line else {
         return Begins::Other;
@@ -136,7 +136,7 @@ pub(crate) fn has_free_name(filing: &Filing) -> bool
 /// The file with one body line more.
 pub(crate) fn take_line(filing: Filing, line: Option<&[u8]>) -> Result<Filing, AllocError>
     requires { IfSome line (λ bytes. length bytes.now ≤ 4096) }
-    ensures { IfOk result (λ next. (o : Opened) (g : FilingOf) → IsFiling o filing g → IsFiling o next (with_line g (option_copied line.entry))) }
+    ensures { IfOk result (λ next. (o : Opened) (g : FilingOf) → IsFiling o filing g → IsFiling o next (with_line g (given_text line.entry))) }
 {
     let Filing { number, pending } = filing;
     let pending = with_line(pending, line)?;
@@ -146,7 +146,7 @@ pub(crate) fn take_line(filing: Filing, line: Option<&[u8]>) -> Result<Filing, A
 // What becomes of a file with one body line more.
 fn with_line(pending: Pending, line: Option<&[u8]>) -> Result<Pending, AllocError>
     requires { IfSome line (λ bytes. length bytes.now ≤ 4096) }
-    ensures { IfOk result (λ next. (o : Opened) (g : FilingOf) → IsPending o pending g → IsPending o next (with_line g (option_copied line.entry))) }
+    ensures { IfOk result (λ next. (o : Opened) (g : FilingOf) → IsPending o pending g → IsPending o next (with_line g (given_text line.entry))) }
 {
     match pending {
         Pending::BadLine => Ok(Pending::BadLine),
@@ -167,7 +167,7 @@ fn take_first_line(
     line: Option<&[u8]>,
 ) -> Result<Pending, AllocError>
     requires { IfSome line (λ bytes. length bytes.now ≤ 4096) }
-    ensures { IfOk result (λ next. (o : Opened) (g : FilingOf) → IsPending o (Pending.Blank name reader) g → IsPending o next (with_line g (option_copied line.entry))) }
+    ensures { IfOk result (λ next. (o : Opened) (g : FilingOf) → IsPending o (Pending.Blank name reader) g → IsPending o next (with_line g (given_text line.entry))) }
 {
     match beginning(line) {
         Begins::NotBuilt => Ok(Pending::NotBuilt(name)),

@@ -1,8 +1,9 @@
 // Files whose bodies are read from the shelf.
 ghost use Rattle.std.specs.Prelude.{◌≡◌, ◌↔◌, ◌+◌, ◌-◌, ◌^◌, ◌≤◌, ◌<◌, ◌⊎◌, min, ℕ, [], length, IfOk, IfErr, IfSome, OnOk, IsErrOf, Some, None};
 ghost use Rattle.etp_io.specs.Causes.{Rose};
+ghost use Rattle.etp_items.specs.Reading.{given_text};
 ghost use Rattle.etp_session.specs.States.{State};
-ghost use Rattle.etp_session.specs.Given.{given_text, GivesState, GivesReply, LoadsLong};
+ghost use Rattle.etp_session.specs.Given.{GivesState, GivesReply, LoadsLong};
 ghost use Rattle.etp_session.specs.Replies.{LoadReply, Reaches, loading};
 ghost use Rattle.etp_session.specs.Desks.{opened_of, Agrees, IsFiling, IsDesk, IsSound};
 ghost use Rattle.etp_session.specs.Shelves.{IsTooLong};

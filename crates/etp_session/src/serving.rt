@@ -1,8 +1,9 @@
 ghost use Rattle.std.specs.Prelude.{◌≡◌, ◌↔◌, IsTrue, ◌++◌, [], ◌+◌, ◌-◌, ◌≤◌, ℕ, length, IfSome, ◌⊎◌, ◌||◌, true, false};
 ghost use Rattle.etp_io.specs.Causes.{Rose};
+ghost use Rattle.etp_items.specs.Reading.{given_text};
 ghost use Rattle.etp_session.specs.States.{State};
 ghost use Rattle.etp_session.specs.Desks.{IsDesk, IsSound};
-ghost use Rattle.etp_session.specs.Given.{line_text, given_text, WritesNothing, WritesClose, WritesSomeOfClose, IsDone, IsCut, IsEnd, status_of};
+ghost use Rattle.etp_session.specs.Given.{line_text, WritesNothing, WritesClose, WritesSomeOfClose, IsDone, IsCut, IsEnd, status_of};
 ghost use Rattle.etp_session.specs.Ends.{EndsWell, WritesPrefix, WritesWholeLines, Takes, TakesWithin, StopsAtFault, StopsAtName, StopsAtLong};
 
 use crate::desk::Desk;

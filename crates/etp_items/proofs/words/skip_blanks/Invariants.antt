@@ -1,5 +1,6 @@
 use Rattle.std.proofs.Common.{◌≡◌, drop}
-use Rattle.etp_items.specs.Words.{words_of, skip_blanks}
+use Rattle.etp_text.specs.Machine.{skip_blanks}
+use Rattle.etp_items.specs.Words.{words_of}
 use Rattle.etp_items.proofs.words.skip_blanks.Given as goal
 
 abbrev pub invariant-loop-i : goal.invariant-loop-i

@@ -1,5 +1,5 @@
 use Rattle.std.proofs.Common.{◌≡◌, ◌<◌, ℕ, get_or, false}
-use Rattle.etp_items.specs.Words.{is_blank}
+use Rattle.etp_text.specs.Grammar.{is_blank}
 use Rattle.etp_items.proofs.words.word_end.Given as goal
 
 abbrev pub invariant-loop-i : goal.invariant-loop-i

@@ -1,4 +1,4 @@
-use Rattle.std.specs.Option.{option_copied}
+use Rattle.etp_items.specs.Reading.{given_text}
 use Rattle.etp_session.proofs.FilingLemmas.{unbuilt-stays}
 use Rattle.etp_session.proofs.FileAnswers.{reads-later}
 use Rattle.etp_session.proofs.filing.with_line.Goals as goal
@@ -6,9 +6,9 @@ use Rattle.etp_session.proofs.filing.with_line.Goals as goal
 pub returns-in-NotBuilt : goal.returns-in-NotBuilt
 returns-in-NotBuilt c o g h =
     let known = rw c.in-NotBuilt.is at h in
-    (known.0, unbuilt-stays g.lines (option_copied c.args.line) known.1)
+    (known.0, unbuilt-stays g.lines (given_text c.args.line) known.1)
 
 pub returns-in_ok-push-in-Begun : goal.returns-in_ok-push-in-Begun
 returns-in_ok-push-in-Begun c o g h =
     let known = rw c.in-Begun.is at h in
-    reads-later o c.in-Begun.name c.in-Begun.reader c.push.new.self g (option_copied c.args.line) c.in_ok-push-in-Begun.ensures.ok c.in_ok-push-in-Begun.ensures.count known
+    reads-later o c.in-Begun.name c.in-Begun.reader c.push.new.self g (given_text c.args.line) c.in_ok-push-in-Begun.ensures.ok c.in_ok-push-in-Begun.ensures.count known

@@ -1,5 +1,5 @@
 use Rattle.std.proofs.Common.{Some}
-use Rattle.etp_session.specs.Given.{given_text}
+use Rattle.etp_items.specs.Reading.{given_text}
 use Rattle.etp_session.proofs.FileAnswers.{IfOk-then}
 use Rattle.etp_session.proofs.StateAnswers.{over-outcome, first-outcome}
 use Rattle.etp_session.proofs.reply.respond_to_command.Goals as goal

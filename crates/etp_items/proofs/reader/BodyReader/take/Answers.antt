@@ -1,4 +1,5 @@
-use Rattle.std.proofs.Common.{◌≡◌, ◌<◌, ◌+◌, take, ◌∷◌, ◌++◌, [], Some, length, arith, sym, ap, subst}
+use Rattle.std.proofs.Common.{◌≡◌, ◌<◌, ◌+◌, take, ◌∷◌, ◌++◌, [], length, arith, sym, ap, subst}
+use Rattle.etp_io.specs.Texts.{whole}
 use Rattle.etp_items.specs.Said.{line_of}
 use Rattle.etp_items.specs.Reading.{opening, line_limit}
 use Rattle.etp_items.specs.Work.{place_of, said_by, KnowsListed}
@@ -14,7 +15,7 @@ returns-clause-past c lines line e good says =
     let taken = rw c.if-not-branch.false at c.in_ok-take.ensures.ok in
     record {
       reads = next_reads line_limit opening (place_of old.work) (place_of new) lines (said_by old.work) (said_by new) line (line_of c.args.said) few good.reads says taken.0 taken.1;
-      listed = subst (KnowsListed old.count (take line_limit (lines ++ Some line ∷ [])) (said_by new)) (sym c.first_found-unlisted.ensures)
+      listed = subst (KnowsListed old.count (take line_limit (lines ++ whole line ∷ [])) (said_by new)) (sym c.first_found-unlisted.ensures)
           (next_knows line_limit old.count (old.lines + 1) lines (said_by old.work) (said_by new) (place_of old.work) line (line_of c.args.said) old.unlisted c.first_unlisted-number.result few next good.reads says taken.1 good.listed c.first_unlisted-number.ensures);
     }
 
