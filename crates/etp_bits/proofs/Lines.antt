@@ -6,7 +6,7 @@ use Rattle.std.proofs.lemmas.Nat.{and_le_l}
 use Rattle.std.proofs.lemmas.Nat.Bits.{bit_at_and, bit_at_or, same_from_bits, bit_at-lt, bit_at_not, bit_at-trailing_zeros, bit_at-zero}
 use Rattle.std.proofs.lemmas.Bool.{cases_lt, cases_eq, eqb-true, eq-eqb, ne_eqb}
 use Rattle.etp_bits.specs.Counts.{count_below}
-use Rattle.etp_bits.specs.Words.{lit, JoinsWords, LitInBoth, LitInOne}
+use Rattle.etp_bits.specs.Words.{lit, JoinsWords, LitInOne}
 use Rattle.etp_bits.proofs.Counting.{count_below-add, count_below-same, count_ones-count_below}
 
 -- a column's bit, by its word and its place in the word
@@ -109,39 +109,6 @@ some_bit n some small =
 
 both_bits : (a b : ℕ) → a < 2 → b < 2 → min a b ≡ 1 → (a ≡ 1) × (b ≡ 1)
 both_bits a b h k e = (omega (arith, e), omega (arith, e))
-
--- a word with a bit in common with its partner shows a column that is on in both
-pub lit_both : (words other : List ℕ) (start from count place : ℕ) → place < count
-    → slice_index words (start + place) < 2 ^ 64
-    → bit_and (slice_index words (start + place)) (slice_index other (from + place)) ≢ 0
-    → LitInBoth words other start from count
-lit_both words other start from count place within small meets =
-    let here = slice_index words (start + place) in
-    let there = slice_index other (from + place) in
-    let shared = some_bit (bit_and here there) meets (omega (arith, and_le_l here there)) in
-    let i = shared.0 in
-    let both = both_bits (bit_at here i) (bit_at there i) (bit_at-lt here i) (bit_at-lt there i) (sym (bit_at_and here there i) ∙ shared.2) in
-    record {
-      column = 64 * place + i;
-      within = omega (arith, shared.1);
-      here = lit-word words start place i shared.1 ∙ ap (λ b. nat_eq b 1) both.0;
-      there = lit-word other from place i shared.1 ∙ ap (λ b. nat_eq b 1) both.1;
-    }
-
--- where no word has a bit in common with its partner, no column is on in both
-pub lit_none : (words other : List ℕ) (start from count : ℕ)
-    → ((place : ℕ) → place < count → bit_and (slice_index words (start + place)) (slice_index other (from + place)) ≡ 0)
-    → LitInBoth words other start from count → ⊥
-unfolding lit
-lit_none words other start from count none shared =
-    let column = shared.column in
-    let here = slice_index words (start + column / 64) in
-    let there = slice_index other (from + column / 64) in
-    let one : bit_at here (column % 64) ≡ 1 = eqb-true _ 1 shared.here in
-    let two : bit_at there (column % 64) ≡ 1 = eqb-true _ 1 shared.there in
-    let zero_word = none (column / 64) (omega (arith, shared.within)) in
-    let off = sym (bit_at_and here there (column % 64)) ∙ ap (λ w. bit_at w (column % 64)) zero_word ∙ bit_at-zero (column % 64) in
-    omega (arith, one, two, off)
 
 -- a word with a bit that its partner lacks shows a column that is on in the one alone
 pub lit_one : (words other : List ℕ) (start from count place : ℕ) → place < count

@@ -9,9 +9,9 @@ use Rattle.std.proofs.lemmas.Nat.{same_from_place, mul-add-lt, row_fits}
 use Rattle.std.proofs.lemmas.Nat.Bits.{bit_at_or, bit_at-lt, bit_at_set_same, bit_at_set_other, bit_at-zero, shr_and_one}
 use Rattle.std.proofs.lemmas.Bool.{cases_lt, cases_eq, eq-eqb, ne_eqb, lt-ltb, le-ltb, and_right, or_right, cases_order, false_from_ne_true}
 use Rattle.std.proofs.Math.Nat.{mul-le-mul_right}
-use Rattle.etp_bits.specs.Bits.{Bits, bit, IsBlank, Resizes, Shares}
+use Rattle.etp_bits.specs.Bits.{Bits, bit, IsBlank, Resizes}
 use Rattle.etp_bits.specs.Counts.{count_below}
-use Rattle.etp_bits.specs.Words.{lit, bits_of, IsLaidOut, JoinsWords, LitInBoth, Spreads, Regrows}
+use Rattle.etp_bits.specs.Words.{lit, bits_of, IsLaidOut, JoinsWords, Spreads, Regrows}
 use Rattle.etp_bits.proofs.Counting.{count_below-past, count_below-same}
 
 get_made : {X : Type 0} (f : ℕ → X) (n i : ℕ) (d : X) → get_or (map f (range_with_len 0 n)) i d ≡ (if nat_lt i n then f i else d)
@@ -316,37 +316,6 @@ pub count_needed : (p q : ℕ → Bool) (columns : ℕ) → ((column : ℕ) → 
     → count_below p (64 * ((columns + 63) / 64)) ≡ count_below q columns
 count_needed p q columns same off =
     count_below-past p columns (64 * ((columns + 63) / 64)) (omega arith) off ∙ count_below-same p q columns same
-
--- a column that is on in the words that the columns need is on in both rows
-pub shares_found : (rows columns stride count : ℕ) (words : List ℕ) (other_rows other_columns other_stride other_count : ℕ)
-    (other : List ℕ) (row other_row : ℕ)
-    → IsLaidOut rows columns stride count words → IsLaidOut other_rows other_columns other_stride other_count other
-    → row < rows → other_row < other_rows → columns ≤ other_columns
-    → LitInBoth words other (row * stride) (other_row * other_stride) ((columns + 63) / 64)
-    → Shares (bits_of rows columns stride words) (bits_of other_rows other_columns other_stride other) row other_row
-shares_found rows columns stride count words other_rows other_columns other_stride other_count other row other_row laid other_laid h k wide found =
-    record {
-      column = found.column;
-      here = bit_in_words rows columns stride count words row found.column laid h (omega (arith, found.within, laid.wide)) ∙ found.here;
-      there = bit_in_words other_rows other_columns other_stride other_count other other_row found.column other_laid k (omega (arith, found.within, other_laid.wide)) ∙ found.there;
-    }
-
--- a column that is on in both rows is on in the words
-pub shares_lit : (rows columns stride : ℕ) (words : List ℕ) (other_rows other_columns other_stride : ℕ)
-    (other : List ℕ) (row other_row : ℕ) → row < rows → other_row < other_rows → columns ≤ other_columns
-    → Shares (bits_of rows columns stride words) (bits_of other_rows other_columns other_stride other) row other_row
-    → LitInBoth words other (row * stride) (other_row * other_stride) ((columns + 63) / 64)
-shares_lit rows columns stride words other_rows other_columns other_stride other row other_row h k wide shared =
-    elim (cases_lt shared.column columns) [
-      | inl within ↦
-          record {
-            column = shared.column;
-            within = omega arith;
-            here = sym (bit_within rows columns stride words row shared.column h within) ∙ shared.here;
-            there = sym (bit_within other_rows other_columns other_stride other other_row shared.column k (omega arith)) ∙ shared.there;
-          }
-      | inr past ↦ (cc (bit_past rows columns stride words row shared.column past, shared.here))
-    ]
 
 -- one row more is spread out
 pub spreads_more : (words before longer after : List ℕ) (row stride wider : ℕ) → stride ≤ wider

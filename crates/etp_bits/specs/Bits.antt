@@ -1,5 +1,5 @@
 -- What callers see of a matrix of bits.
-use Rattle.std.specs.Prelude.{◌≡◌, ℕ, List, [], Bool, true, false, slice_index_or}
+use Rattle.std.specs.Prelude.{◌≡◌, ℕ, List, [], Bool, false, slice_index_or}
 
 -- the numbers of rows and of columns, and for each row its bits from the first column on
 pub record Bits : Type 0 where
@@ -27,9 +27,3 @@ pub record Resizes (old new : Bits) (rows columns : ℕ) : Type 0 where
 pub record SameSizes (old new : Bits) : Type 0 where
   pub rows_stay : new.rows ≡ old.rows
   pub columns_stay : new.columns ≡ old.columns
-
--- some column is on in a row of the one and in a row of the other
-pub record Shares (matrix other : Bits) (row other_row : ℕ) : Type 0 where
-  pub column : ℕ
-  pub here : bit matrix row column ≡ true
-  pub there : bit other other_row column ≡ true

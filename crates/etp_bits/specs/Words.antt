@@ -38,13 +38,6 @@ pub record JoinsBits (old new : List ℕ) (stride : ℕ) (further : ℕ → ℕ 
   pub bits : (row column : ℕ) → column < 64 * stride
       → lit new (row * stride) column ≡ (lit old (row * stride) column || further row column)
 
--- some column of `count` words is on in both
-pub record LitInBoth (words other : List ℕ) (at from count : ℕ) : Type 0 where
-  pub column : ℕ
-  pub within : column < 64 * count
-  pub here : lit words at column ≡ true
-  pub there : lit other from column ≡ true
-
 -- some column of `count` words is on in the first and off in the other
 pub record LitInOne (words other : List ℕ) (at from count : ℕ) : Type 0 where
   pub column : ℕ

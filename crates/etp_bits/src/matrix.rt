@@ -1,11 +1,10 @@
 ghost use Rattle.std.specs.Prelude.{◌≡◌, ℕ, ◌+◌, ◌*◌, ◌/◌, ◌^◌, ◌<◌, ◌≤◌, not, ◌&&◌, ◌||◌, nat_eq, nat_lt, IsTrue, ◌↔◌, IfOk, OnOk, OnErr, length, vec_len};
-ghost use Rattle.etp_bits.specs.Bits.{bit, IsBlank, Resizes, SameSizes, Shares};
+ghost use Rattle.etp_bits.specs.Bits.{bit, IsBlank, Resizes, SameSizes};
 ghost use Rattle.etp_bits.specs.Counts.{count_below};
 ghost use Rattle.etp_bits.specs.Words.{lit, Spreads, Regrows};
 
 use crate::words::{
-    any_shared, any_without, count_on, count_without, join_to_rows, join_within, join_without,
-    join_words,
+    any_without, count_on, count_without, join_to_rows, join_within, join_without, join_words,
 };
 use std::alloc::{AllocError, Global};
 use std::marker::Model;
@@ -308,23 +307,5 @@ impl Matrix {
             other_row as usize * other.stride,
             count,
         ) as u32
-    }
-
-    /// Whether some column is on in a row and in a row of another matrix.
-    pub fn shares(&self, row: u32, other: &Matrix, other_row: u32) -> bool
-        requires row_in { row < self.now.rows }
-        requires other_row_in { other_row < other.now.rows }
-        requires wide { self.now.columns ≤ other.now.columns }
-        ensures found { IsTrue result → Shares self.now other.now row other_row }
-        ensures none { Shares self.now other.now row other_row → IsTrue result }
-    {
-        let count = words_for(self.columns);
-        any_shared(
-            &self.words,
-            row as usize * self.stride,
-            &other.words,
-            other_row as usize * other.stride,
-            count,
-        )
     }
 }

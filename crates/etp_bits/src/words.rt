@@ -2,7 +2,7 @@
 ghost use Rattle.std.specs.Prelude.{◌≡◌, ◌≢◌, ℕ, ◌+◌, ◌*◌, ◌/◌, ◌%◌, ◌<◌, ◌≤◌, IsTrue, length, slice_index, bit_and, false, not, ◌&&◌, ◌^◌, nat_eq, nat_lt};
 ghost use Rattle.std.specs.Int.{bit_at};
 ghost use Rattle.etp_bits.specs.Counts.{count_below};
-ghost use Rattle.etp_bits.specs.Words.{lit, JoinsWords, JoinsBits, LitInBoth, LitInOne};
+ghost use Rattle.etp_bits.specs.Words.{lit, JoinsWords, JoinsBits, LitInOne};
 
 // Joins words to others of the same list. Each is read before it is written.
 pub(crate) fn join_within(words: &mut [u64], into: usize, from: usize, count: usize)
@@ -25,21 +25,6 @@ pub(crate) fn join_words(words: &mut [u64], into: usize, other: &[u64], from: us
     for place in 0..count {
         words[into + place] |= other[from + place];
     }
-}
-
-// Whether a column is on in these words and in their partners of the other list.
-pub(crate) fn any_shared(words: &[u64], at: usize, other: &[u64], from: usize, count: usize) -> bool
-    requires at_fits { at + count ≤ length words.now }
-    requires from_fits { from + count ≤ length other.now }
-    ensures found { IsTrue result → LitInBoth words.now other.now at from count }
-    ensures none { LitInBoth words.now other.now at from count → IsTrue result }
-{
-    for place in 0..count {
-        if words[at + place] & other[from + place] != 0 {
-            return true;
-        }
-    }
-    false
 }
 
 // How many bits are on in these words.

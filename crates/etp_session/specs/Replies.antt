@@ -66,7 +66,7 @@ loading n word lines = record { number = n; word = Some word; lines = lines }
 
 -- The reply to line n, which loads a file. The shelf is reached only where the word is a name and is
 -- free; the whole bytes of the name are then the body, which their end closes. Where the name isn't
--- there the text is over.
+-- there, or has more bytes than the limit, the text is over.
 pub data LoadReply (s : KnownShelf) (o : Opened) (n : ℕ) (word : List ℕ) (reply : Reply) (after : State) : Type 0 where
   unreached : (files : List File) → (HasFreeName o.files (Some word) word → ⊥) → FileReply o (loading n word []) true reply files
       → after ≡ over (record { laws = o.laws; files = files }) → LoadReply s o n word reply after

@@ -1,6 +1,0 @@
-use Rattle.std.proofs.Common.{◌≡◌, ◌<◌, ◌+◌, ℕ, bit_and, slice_index}
-use Rattle.etp_bits.proofs.words.any_shared.Given as goal
-
-abbrev pub invariant-loop-place : goal.invariant-loop-place
-invariant-loop-place l = (place : ℕ) → place < l.place
-    → bit_and (slice_index l.words (l.at + place)) (slice_index l.other (l.from + place)) ≡ 0
