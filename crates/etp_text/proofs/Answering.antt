@@ -232,15 +232,15 @@ stops_at_byte laws bytes rest [] state place h e l p n = absurd (l refl)
 stops_at_byte laws bytes rest (b ∷ bs) state place h e l p n =
     no_token_there laws bytes rest (b ∷ bs) state place b bs h (skipped_to rest (b ∷ bs) e) p refl (no_blank rest b bs (sym e)) n
 
-pub stops_at_token : (laws : Bool) (bytes rest next behind : List ℕ) (t : Token) (state : State) (place : ℕ) (error : TextRefusal)
+pub stops_at_token : (laws : Bool) (bytes rest next behind : List ℕ) (t : Token) (state after : State) (place : ℕ) (error : TextRefusal)
     → HasRead laws bytes rest state → next ≡ skip_blanks rest → place + length next ≡ length bytes → token_at next ≡ Some (t, behind)
-    → Takes (step laws state t) (step laws state (as_variable t)) t place (Err error) → RefusesText (text_of laws) bytes error
-stops_at_token laws bytes rest next behind t state place (Syntax there) h e p f k =
+    → Takes (step laws state t) (step laws state (as_variable t)) t place after (Err error) → RefusesText (text_of laws) bytes error
+stops_at_token laws bytes rest next behind t state after place (Syntax there) h e p f k =
     subst (IsSyntaxAt (text_of laws) bytes) (sym k.0) (no_place laws bytes rest next behind t state place h (skipped_to rest next e) (token_found next t behind f) p k.1)
-stops_at_token laws bytes rest next behind t state place (WrongVariable there) h e p f k =
+stops_at_token laws bytes rest next behind t state after place (WrongVariable there) h e p f k =
     subst (IsVariableAt (text_of laws) bytes) (sym k.0) (wrong_variable laws bytes rest next behind t state place h (skipped_to rest next e) (token_found next t behind f) p k.1 k.2)
-stops_at_token laws bytes rest next behind t state place (TooLarge count) h e p f k = k
-stops_at_token laws bytes rest next behind t state place NoMemory h e p f k = tt
+stops_at_token laws bytes rest next behind t state after place (TooLarge count) h e p f k = k
+stops_at_token laws bytes rest next behind t state after place NoMemory h e p f k = tt
 
 pub goes_on : (laws : Bool) (bytes rest next behind : List ℕ) (t : Token) (state after : State)
     → HasRead laws bytes rest state → next ≡ skip_blanks rest → token_at next ≡ Some (t, behind) → step laws state t ≡ Some after → HasRead laws bytes behind after

@@ -1,10 +1,10 @@
 -- A text has one first refusal.
-use Rattle.std.proofs.Common.{◌≡◌, ◌≢◌, ℕ, ◌+◌, ◌<◌, ◌≤◌, Bool, true, false, ◌⊎◌, inl, inr, Option, Some, None, List, [], ◌∷◌, ◌++◌, length, refl, sym, ap, ap₂, ◌∙◌, subst, arith, append_assoc, append-nil}
+use Rattle.std.proofs.Common.{◌≡◌, ◌≢◌, ℕ, ◌+◌, Bool, true, false, ◌⊎◌, inl, inr, Option, Some, None, List, [], ◌∷◌, ◌++◌, length, refl, sym, ap, ap₂, ◌∙◌, subst, arith, append_assoc, append-nil}
 use Rattle.std.proofs.lemmas.Bool.{cond-false}
 use Rattle.std.proofs.lemmas.Option.{some_pair_parts}
-use Rattle.etp_theory.specs.Trees.{Tree, Equation, leaves}
-use Rattle.etp_text.specs.Grammar.{AreBlanks, StartsWith, Begins, AreTokens, SpellsTerm, SpellsLaw}
-use Rattle.etp_text.specs.Refusals.{side_limit, IsTooLarge, RefusesTerm, RefusesLaw, IsViable, Before, EndsEarly, BeginsNoToken, HasNoPlace, IsSyntaxAt, IsVariableAt, as_variable}
+use Rattle.etp_theory.specs.Trees.{Equation, leaves}
+use Rattle.etp_text.specs.Grammar.{StartsWith, Begins}
+use Rattle.etp_text.specs.Refusals.{IsTooLarge, RefusesTerm, RefusesLaw, IsViable, Before, IsSyntaxAt, IsVariableAt, as_variable}
 use Rattle.etp_text.specs.Machine.{skip_blanks, token_at, text_of}
 use Rattle.etp_text.specs.declared.token.Token.{Token}
 use Rattle.etp_text.specs.declared.token.Token.TheVariants.{Variable, Unknown}

@@ -1,13 +1,25 @@
 -- What spells a side or a law is read as it: the grammar's texts are runs.
 use Rattle.std.proofs.Common.{◌≡◌, Bool, true, false, ◌⊎◌, inl, inr, Option, Some, None, option_and_then, List, [], ◌∷◌, ◌++◌, refl, sym, ap, ◌∙◌, append_assoc, append-nil}
+use Rattle.std.specs.Prelude.{map}
+use Rattle.std.specs.Option.{option_map}
 use Rattle.etp_theory.specs.Trees.{Tree, op, Equation}
+use Rattle.etp_term.specs.Terms.{tree_of}
+use Rattle.etp_term.specs.declared.term.Term.{Term}
 use Rattle.etp_text.specs.Grammar.{IsAtom, IsSide, IsLaw, variable, enclosed, alone, joined}
-use Rattle.etp_text.specs.Machine.{Stand, wanted, atom, pair, State, start, placed, step, run, text_of}
+use Rattle.etp_text.specs.Machine.{Stand, wanted, atom, pair, State, start, placed, divided, step, run, text_of}
 use Rattle.etp_text.specs.declared.token.Token.{Token}
 use Rattle.etp_text.specs.declared.token.Token.TheVariants.{Opening, Closing, Equals, Operator, Unknown}
 
 abbrev pub at : Option Tree → List (Option Tree) → Stand → State
 at left parts stand = record { left = left; open_parts = parts; stand = stand }
+
+-- only the left side of a law, outside all parentheses, has = behind it
+pub not_divided : (laws : Bool) (left : Option Term) (parts : List (Option Term)) (t : Tree) → (laws ≡ true → left ≡ None → parts ≡ [] → ⊥)
+    → divided laws (option_map tree_of left) (map (option_map tree_of) parts) t ≡ None
+not_divided false left parts t h = refl
+not_divided true (Some l) parts t h = refl
+not_divided true None [] t h = absurd (h refl refl refl)
+not_divided true None (p ∷ ps) t h = refl
 
 pub run_append : (laws : Bool) (state : State) (ts us : List Token) → run laws state (ts ++ us) ≡ option_and_then (λ next. run laws next us) (run laws state ts)
 run_append laws state [] us = refl

@@ -133,13 +133,13 @@ abbrev pub run : Bool → State → List Token → Option State
 run laws state [] = Some state
 run laws state (token ∷ tokens) = option_and_then (λ next. run laws next tokens) (step laws state token)
 
--- a reading behind one more token, or the refusal there; `as_if` is the step by a variable in an unknown name's place
-abbrev pub Takes : Option State → Option State → Token → ℕ → Result Reading TextRefusal → Type 0
-Takes next as_if token at (Ok r) = next ≡ Some (state_of r)
-Takes next as_if token at (Err (Syntax place)) = (place ≡ at) × (as_if ≡ None)
-Takes next as_if token at (Err (WrongVariable place)) = (place ≡ at) × (token ≡ Unknown) × IsSome as_if
-Takes next as_if token at (Err (TooLarge count)) = ⊥
-Takes next as_if token at (Err NoMemory) = Unit {0}
+-- the state behind one more token, or the refusal there; `as_if` is the step by a variable in an unknown name's place
+abbrev pub Takes : Option State → Option State → Token → ℕ → State → Result Unit TextRefusal → Type 0
+Takes next as_if token at state (Ok _) = next ≡ Some state
+Takes next as_if token at state (Err (Syntax place)) = (place ≡ at) × (as_if ≡ None)
+Takes next as_if token at state (Err (WrongVariable place)) = (place ≡ at) × (token ≡ Unknown) × IsSome as_if
+Takes next as_if token at state (Err (TooLarge count)) = ⊥
+Takes next as_if token at state (Err NoMemory) = Unit {0}
 
 -- the texts that are read
 abbrev pub text_of : Bool → List Token → Type 0

@@ -62,7 +62,7 @@ fn read_text(alloc: Global, bytes: &[u8], laws: bool) -> Result<(Reading, u32), 
         let Some((token, behind)) = token_at(next) else {
             return Err(TextRefusal::Syntax { at });
         };
-        reading = reading.advance(alloc, laws, token, at)?;
+        reading.advance(alloc, laws, token, at)?;
         rest = behind;
     }
 }

@@ -11,6 +11,7 @@ use etp_term::Term;
 use sqlite_items::Boxed;
 use std::alloc::{AllocError, Global};
 use std::marker::Model;
+use std::mem;
 
 /// What stands of a side: an atom is wanted, maybe behind a part and an operator; or an atom stands;
 /// or two with an operator between.
@@ -93,19 +94,102 @@ impl Reading {
 
     /// Goes past one more token. `laws` says whether `=` may stand; the token's place is `at`.
     pub(crate) fn advance(
-        self,
+        &mut self,
         alloc: Global,
         laws: bool,
         token: Token,
         at: u32,
-    ) -> Result<Reading, TextRefusal>
-        ensures { Takes (step laws (state_of self) token) (step laws (state_of self) (as_variable token)) token at result }
+    ) -> Result<(), TextRefusal>
+        ensures { Takes (step laws (state_of self.old) token) (step laws (state_of self.old) (as_variable token)) token at (state_of self.new) result }
     {
-        let Reading { left, opened, part } = self;
-        match part {
-            Part::Wanted(before) => begin(alloc, left, opened, before, token, at),
-            Part::Atom(side) => behind_atom(alloc, laws, left, opened, side, token, at),
-            Part::Pair(side) => end(alloc, laws, left, opened, side, token, at),
+        match mem::replace(&mut self.part, Part::Wanted(None)) {
+            Part::Wanted(before) => self.begin(alloc, before, token, at),
+            Part::Atom(side) => self.behind_atom(alloc, laws, side, token, at),
+            Part::Pair(side) => self.end(alloc, laws, side, token, at),
+        }
+    }
+
+    /// Goes past a token where an atom is wanted.
+    fn begin(
+        &mut self,
+        alloc: Global,
+        before: Option<Term>,
+        token: Token,
+        at: u32,
+    ) -> Result<(), TextRefusal>
+        ensures { let s = option_map tree_of self.old.left in let b = option_map tree_of before in let p = map (option_map tree_of) self.old.opened in Takes (begin_from s p b token) (begin_from s p b (as_variable token)) token at (state_of self.new) result }
+    {
+        match token {
+            Token::Variable(v) => self.part = placed(alloc, before, Term::Var(v))?,
+            Token::Opening => {
+                self.opened.push(before)?;
+                self.part = Part::Wanted(None);
+            }
+            Token::Unknown => return Err(TextRefusal::Variable { at }),
+            _ => return Err(TextRefusal::Syntax { at }),
+        }
+        Ok(())
+    }
+
+    /// Goes past a token behind an atom.
+    fn behind_atom(
+        &mut self,
+        alloc: Global,
+        laws: bool,
+        side: Term,
+        token: Token,
+        at: u32,
+    ) -> Result<(), TextRefusal>
+        ensures { let s = option_map tree_of self.old.left in let p = map (option_map tree_of) self.old.opened in Takes (atom_from laws s p (tree_of side) token) (atom_from laws s p (tree_of side) (as_variable token)) token at (state_of self.new) result }
+    {
+        match token {
+            Token::Operator => {
+                self.part = Part::Wanted(Some(side));
+                Ok(())
+            }
+            _ => self.end(alloc, laws, side, token, at),
+        }
+    }
+
+    /// Goes past a token that ends a part.
+    fn end(
+        &mut self,
+        alloc: Global,
+        laws: bool,
+        side: Term,
+        token: Token,
+        at: u32,
+    ) -> Result<(), TextRefusal>
+        ensures { let s = option_map tree_of self.old.left in let p = map (option_map tree_of) self.old.opened in Takes (end_from laws s p (tree_of side) token) (end_from laws s p (tree_of side) (as_variable token)) token at (state_of self.new) result }
+    {
+        match token {
+            Token::Closing => self.close(alloc, side, at),
+            Token::Equals => self.divide(laws, side, at),
+            _ => Err(TextRefusal::Syntax { at }),
+        }
+    }
+
+    /// Goes past a closing parenthesis.
+    fn close(&mut self, alloc: Global, side: Term, at: u32) -> Result<(), TextRefusal>
+        ensures { let next = closed (option_map tree_of self.old.left) (map (option_map tree_of) self.old.opened) (tree_of side) in Takes next next Token.Closing at (state_of self.new) result }
+    {
+        let Some(before) = self.opened.pop() else {
+            return Err(TextRefusal::Syntax { at });
+        };
+        self.part = placed(alloc, before, side)?;
+        Ok(())
+    }
+
+    /// Goes past the sign between the sides of a law.
+    fn divide(&mut self, laws: bool, side: Term, at: u32) -> Result<(), TextRefusal>
+        ensures { let next = divided laws (option_map tree_of self.old.left) (map (option_map tree_of) self.old.opened) (tree_of side) in Takes next next Token.Equals at (state_of self.new) result }
+    {
+        if laws && self.left.is_none() && self.opened.is_empty() {
+            self.left = Some(side);
+            self.part = Part::Wanted(None);
+            Ok(())
+        } else {
+            Err(TextRefusal::Syntax { at })
         }
     }
 
@@ -126,119 +210,6 @@ impl Reading {
             Part::Pair(side) => Ok(side),
             Part::Wanted(_before) => Err(TextRefusal::Syntax { at }),
         }
-    }
-}
-
-/// Goes past a token where an atom is wanted.
-fn begin(
-    alloc: Global,
-    left: Option<Term>,
-    mut opened: Parentheses,
-    before: Option<Term>,
-    token: Token,
-    at: u32,
-) -> Result<Reading, TextRefusal>
-    ensures { let s = option_map tree_of left in let b = option_map tree_of before in let p = map (option_map tree_of) opened in Takes (begin_from s p b token) (begin_from s p b (as_variable token)) token at result }
-{
-    match token {
-        Token::Variable(v) => Ok(Reading {
-            left,
-            opened,
-            part: placed(alloc, before, Term::Var(v))?,
-        }),
-        Token::Opening => {
-            opened.push(before)?;
-            Ok(Reading {
-                left,
-                opened,
-                part: Part::Wanted(None),
-            })
-        }
-        Token::Unknown => Err(TextRefusal::Variable { at }),
-        _ => Err(TextRefusal::Syntax { at }),
-    }
-}
-
-/// Goes past a token behind an atom.
-fn behind_atom(
-    alloc: Global,
-    laws: bool,
-    left: Option<Term>,
-    opened: Parentheses,
-    side: Term,
-    token: Token,
-    at: u32,
-) -> Result<Reading, TextRefusal>
-    ensures { let s = option_map tree_of left in let p = map (option_map tree_of) opened in Takes (atom_from laws s p (tree_of side) token) (atom_from laws s p (tree_of side) (as_variable token)) token at result }
-{
-    match token {
-        Token::Operator => Ok(Reading {
-            left,
-            opened,
-            part: Part::Wanted(Some(side)),
-        }),
-        _ => end(alloc, laws, left, opened, side, token, at),
-    }
-}
-
-/// Goes past a token that ends a part.
-fn end(
-    alloc: Global,
-    laws: bool,
-    left: Option<Term>,
-    opened: Parentheses,
-    side: Term,
-    token: Token,
-    at: u32,
-) -> Result<Reading, TextRefusal>
-    ensures { let s = option_map tree_of left in let p = map (option_map tree_of) opened in Takes (end_from laws s p (tree_of side) token) (end_from laws s p (tree_of side) (as_variable token)) token at result }
-{
-    match token {
-        Token::Closing => close(alloc, left, opened, side, at),
-        Token::Equals => divide(alloc, laws, left, opened, side, at),
-        _ => Err(TextRefusal::Syntax { at }),
-    }
-}
-
-/// Goes past a closing parenthesis.
-fn close(
-    alloc: Global,
-    left: Option<Term>,
-    mut opened: Parentheses,
-    side: Term,
-    at: u32,
-) -> Result<Reading, TextRefusal>
-    ensures { let next = closed (option_map tree_of left) (map (option_map tree_of) opened) (tree_of side) in Takes next next Token.Closing at result }
-{
-    match opened.pop() {
-        None => Err(TextRefusal::Syntax { at }),
-        Some(before) => Ok(Reading {
-            left,
-            opened,
-            part: placed(alloc, before, side)?,
-        }),
-    }
-}
-
-/// Goes past the sign between the sides of a law.
-fn divide(
-    alloc: Global,
-    laws: bool,
-    left: Option<Term>,
-    opened: Parentheses,
-    side: Term,
-    at: u32,
-) -> Result<Reading, TextRefusal>
-    ensures { let next = divided laws (option_map tree_of left) (map (option_map tree_of) opened) (tree_of side) in Takes next next Token.Equals at result }
-{
-    if laws && left.is_none() && opened.is_empty() {
-        Ok(Reading {
-            left: Some(side),
-            opened: Parentheses::none(alloc),
-            part: Part::Wanted(None),
-        })
-    } else {
-        Err(TextRefusal::Syntax { at })
     }
 }
 

@@ -20,16 +20,16 @@ returns-in_default c =
     stops_at_byte c.args.laws c.args.bytes.now c.loop-next.rest.now c.skip_blanks-next.result.now (state_of c.loop-next.reading) c.place_of-at.result
     c.loop-next.invariant c.skip_blanks-next.ensures (false-eqb (length c.skip_blanks-next.result.now) 0 (sym c.if-is_empty.false ∙ c.is_empty.ensures)) c.place_of-at.ensures (sym c.in_default.ensures)
 
-pub returns-in_err-reading : goal.returns-in_err-reading
-returns-in_err-reading c =
+pub returns-in_err-advance : goal.returns-in_err-advance
+returns-in_err-advance c =
     let p = err_from_is_err_and c.from_residual.result c.from_residual.ensures.1 in
-    rw (p.1, p.2) (stops_at_token c.args.laws c.args.bytes.now c.loop-next.rest.now c.skip_blanks-next.result.now c.in-Some.behind.now c.in-Some.token (state_of c.loop-next.reading) c.place_of-at.result c.in_err-reading.field-0.0
-    c.loop-next.invariant c.skip_blanks-next.ensures c.place_of-at.ensures (sym c.in-Some.ensures) c.in_err-reading.ensures)
+    rw (p.1, p.2) (stops_at_token c.args.laws c.args.bytes.now c.loop-next.rest.now c.skip_blanks-next.result.now c.in-Some.behind.now c.in-Some.token (state_of c.loop-next.reading) (state_of c.advance.new.self) c.place_of-at.result c.in_err-advance.field-0.0
+    c.loop-next.invariant c.skip_blanks-next.ensures c.place_of-at.ensures (sym c.in-Some.ensures) c.in_err-advance.ensures)
 
 pub loop-next-smaller : goal.loop-next-smaller
 loop-next-smaller c = goes_down c.loop-next.rest.now c.skip_blanks-next.result.now c.in-Some.behind.now c.in-Some.token c.skip_blanks-next.ensures (sym c.in-Some.ensures)
 
 pub loop-next-preserved : goal.loop-next-preserved
 loop-next-preserved c =
-    goes_on c.args.laws c.args.bytes.now c.loop-next.rest.now c.skip_blanks-next.result.now c.in-Some.behind.now c.in-Some.token (state_of c.loop-next.reading) (state_of c.in_ok-reading.reading)
-    c.loop-next.invariant c.skip_blanks-next.ensures (sym c.in-Some.ensures) c.in_ok-reading.ensures
+    goes_on c.args.laws c.args.bytes.now c.loop-next.rest.now c.skip_blanks-next.result.now c.in-Some.behind.now c.in-Some.token (state_of c.loop-next.reading) (state_of c.advance.new.self)
+    c.loop-next.invariant c.skip_blanks-next.ensures (sym c.in-Some.ensures) c.in_ok-advance.ensures
