@@ -1,13 +1,7 @@
-pub mod TextLemmas
 pub mod Parts
 pub mod SessionLemmas
 pub mod ListingLemmas
-pub mod OneAnswer
-pub mod FilingLemmas
-pub mod FileAnswers
-pub mod ReplyLemmas
-pub mod StateAnswers
-pub mod PairAnswers
 pub mod OneText
 pub mod Running
 pub mod ShelfReading
+pub mod LoadAnswers

@@ -14,14 +14,15 @@ use Rattle.etp_io.specs.Answers.{Fits, GivesLines, PartGives, to_come, says}
 use Rattle.etp_io.specs.declared.lines.Next.{Next}
 use Rattle.etp_io.specs.declared.lines.Next.TheVariants.{Line, Long, End}
 use Rattle.etp_io.proofs.Laws.{Appends-then, Appends-none, IsPrefix-all, Loses-then, Loses-none, lines_of-append}
-use Rattle.etp_session.specs.Texts.{reply_text, is_refusal}
-use Rattle.etp_session.specs.States.{State, unopened}
-use Rattle.etp_session.specs.Shelves.{KnownShelf}
-use Rattle.etp_session.specs.Replies.{Reaches, answered_line}
+use Rattle.etp_reply.specs.Texts.{reply_text, is_refusal}
+use Rattle.etp_reply.specs.States.{State, unopened}
+use Rattle.etp_reply.specs.Shelves.{KnownShelf}
+use Rattle.etp_reply.specs.Replies.{Reaches, answered_line}
 use Rattle.etp_session.specs.Sessions.{Item, Session, IsWholeSession, AnswersLines, StopsAtLoad, BeginsInLines, Begins, in_lines, at_end, items_from, items_of}
 use Rattle.etp_session.specs.declared.serving.Ending.{Ending}
 use Rattle.etp_session.specs.declared.serving.Ending.TheVariants.{Done, ReadFault, WriteFault, NoMemory, TooMuch}
-use Rattle.etp_session.specs.Given.{IsDone, IsCut, IsEnd, line_text, GivesReply, GivesClose, WritesNothing, WritesClose, WritesSomeOfClose}
+use Rattle.etp_reply.specs.Given.{GivesReply, GivesClose}
+use Rattle.etp_session.specs.Endings.{IsDone, IsCut, IsEnd, line_text, WritesNothing, WritesClose, WritesSomeOfClose}
 use Rattle.etp_session.specs.Ends.{WritesPrefix, WritesWholeLines, EndsWell, Takes, TakesWithin, StopsAtFault, StopsAtName}
 use Rattle.etp_session.proofs.Parts.{to_last_newline-both, to_last_newline-take}
 use Rattle.etp_session.proofs.SessionLemmas.{Session-then, items_from-append}

@@ -4,7 +4,7 @@ use Rattle.std.specs.declared.option.Option.{Option}
 use Rattle.std.specs.Io.KnownBytes.{Appends, IsAtEnd}
 use Rattle.etp_io.specs.Stream.{Loses}
 use Rattle.etp_io.specs.Texts.{to_last_newline}
-use Rattle.etp_session.specs.Shelves.{KnownShelf, IsTooLong}
+use Rattle.etp_reply.specs.Shelves.{KnownShelf, IsTooLong}
 use Rattle.etp_session.specs.Sessions.{IsWholeSession, AnswersLines, StopsAtLoad, Begins}
 
 -- the whole text was written, and each name that a `load` reaches is there

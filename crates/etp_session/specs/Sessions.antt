@@ -2,10 +2,10 @@
 use Rattle.std.specs.Prelude.{◌≡◌, ◌≢◌, ℕ, ◌+◌, ◌≤◌, List, [], ◌∷◌, ◌++◌, length, Bool, false, ◌||◌}
 use Rattle.etp_io.specs.Texts.{LineText, lines_of}
 use Rattle.etp_io.specs.Stream.{IsPrefix}
-use Rattle.etp_session.specs.Texts.{Reply, reply_text, is_refusal}
-use Rattle.etp_session.specs.States.{State, unopened, stopped}
-use Rattle.etp_session.specs.Shelves.{KnownShelf}
-use Rattle.etp_session.specs.Replies.{Replies, Reaches, Closes, answered_line}
+use Rattle.etp_reply.specs.Texts.{Reply, reply_text, is_refusal}
+use Rattle.etp_reply.specs.States.{State, unopened, stopped}
+use Rattle.etp_reply.specs.Shelves.{KnownShelf}
+use Rattle.etp_reply.specs.Replies.{Replies, Reaches, Closes, answered_line}
 
 -- a line and its number, counted from 1
 pub record Item : Type 0 where

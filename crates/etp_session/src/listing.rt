@@ -1,13 +1,13 @@
 ghost use Rattle.std.specs.Prelude.{◌≡◌, OnOk, OnErr};
 ghost use Rattle.etp_io.specs.Causes.{Rose, HasCause};
 ghost use Rattle.etp_io.specs.Stream.{AppendsPrefix};
-ghost use Rattle.etp_session.specs.Commands.{operations_of};
+ghost use Rattle.etp_command.specs.Commands.{operations_of};
 ghost use Rattle.etp_session.specs.Listings.{ListsLaws, MovesFront};
 
-use crate::command::ListOrder;
-use crate::reply::append_law_line;
+use etp_command::ListOrder;
 use etp_io::{Failed, Sink, write_all};
 use etp_laws::Laws;
+use etp_reply::append_law_line;
 use etp_text::Text;
 use std::alloc::Global;
 

@@ -2,18 +2,17 @@
 ghost use Rattle.std.specs.Prelude.{◌≡◌, ◌↔◌, ◌+◌, ◌-◌, ◌^◌, ◌≤◌, ◌<◌, ◌⊎◌, min, ℕ, [], length, IfOk, IfErr, IfSome, OnOk, IsErrOf, Some, None};
 ghost use Rattle.etp_io.specs.Causes.{Rose};
 ghost use Rattle.etp_items.specs.Reading.{given_text};
-ghost use Rattle.etp_session.specs.States.{State};
-ghost use Rattle.etp_session.specs.Given.{GivesState, GivesReply, LoadsLong};
-ghost use Rattle.etp_session.specs.Replies.{LoadReply, Reaches, loading};
-ghost use Rattle.etp_session.specs.Desks.{opened_of, Agrees, IsFiling, IsDesk, IsSound};
-ghost use Rattle.etp_session.specs.Shelves.{IsTooLong};
-ghost use Rattle.etp_session.specs.Outcomes.{IsToLoad, LoadedLines};
+ghost use Rattle.etp_reply.specs.States.{State};
+ghost use Rattle.etp_reply.specs.Given.{GivesState, GivesReply};
+ghost use Rattle.etp_session.specs.Loads.{LoadsLong};
+ghost use Rattle.etp_reply.specs.Replies.{LoadReply, Reaches, loading};
+ghost use Rattle.etp_reply.specs.Desks.{opened_of, Agrees, IsFiling, IsDesk, IsSound};
+ghost use Rattle.etp_reply.specs.Shelves.{known, IsTooLong};
+ghost use Rattle.etp_session.specs.Loads.{IsToLoad, LoadedLines};
 
-use crate::desk::{Desk, Filing, Opened};
-use crate::filing::{answer_file, take_line};
-use crate::reply::{Outcome, respond};
 use crate::serving::{Ending, is_end, line_read};
 use etp_io::{InFault, Lines, Shelf};
+use etp_reply::{Desk, Filing, Opened, Outcome, answer_file, respond, take_line};
 use etp_text::Text;
 use std::alloc::Global;
 
@@ -38,9 +37,9 @@ fn read_body<H: Shelf>(
 ) -> Result<Filing, Ending>
     requires limit { limit ≤ 134217728 }
     requires name { (0 < length name.now) × (length name.now ≤ 64) }
-    ensures ok { IfOk result (λ read. LoadedLines (record { limit = limit; keeps = H.keeps shelf.old }) name.now filing read) }
+    ensures ok { IfOk result (λ read. LoadedLines (known limit (H.keeps shelf.old)) name.now filing read) }
     ensures read { IsErrOf result Ending.ReadFault → Rose (H.faults shelf.old) (H.faults shelf.new) × (H.failed_name shelf.new ≡ name.now) }
-    ensures too_much { IsErrOf result Ending.TooMuch → IsTooLong (record { limit = limit; keeps = H.keeps shelf.old }) name.now
+    ensures too_much { IsErrOf result Ending.TooMuch → IsTooLong (known limit (H.keeps shelf.old)) name.now
         × (min (H.given shelf.old + (limit + 1)) (2 ^ 64 - 1) ≤ H.given shelf.new) }
     ensures errors { IfErr result (λ e. (e ≡ Ending.NoMemory) ⊎ ((e ≡ Ending.ReadFault) ⊎ (e ≡ Ending.TooMuch))) }
     ensures keeps { H.keeps shelf.new ≡ H.keeps shelf.old }
@@ -81,10 +80,10 @@ fn load<H: Shelf>(
     requires empty { text.old ≡ [] }
     requires loads { IsToLoad desk.old.opened name.now filing }
     ensures ok { IfOk result (λ refused. (o : Opened) (n : ℕ) → desk.old.opened ≡ Some o → IsFiling o filing (loading n name.now [])
-        → GivesState n text.new refused (LoadReply (record { limit = limit; keeps = H.keeps shelf.old }) (opened_of o) n name.now) (IsDesk desk.new)) }
+        → GivesState n text.new refused (LoadReply (known limit (H.keeps shelf.old)) (opened_of o) n name.now) (IsDesk desk.new)) }
     ensures agrees { OnOk result (IfSome desk.new.opened Agrees) }
     ensures read { IsErrOf result Ending.ReadFault → Rose (H.faults shelf.old) (H.faults shelf.new) × (H.failed_name shelf.new ≡ name.now) }
-    ensures too_much { IsErrOf result Ending.TooMuch → IsTooLong (record { limit = limit; keeps = H.keeps shelf.old }) name.now
+    ensures too_much { IsErrOf result Ending.TooMuch → IsTooLong (known limit (H.keeps shelf.old)) name.now
         × (min (H.given shelf.old + (limit + 1)) (2 ^ 64 - 1) ≤ H.given shelf.new) }
     ensures errors { IfErr result (λ e. (e ≡ Ending.NoMemory) ⊎ ((e ≡ Ending.ReadFault) ⊎ (e ≡ Ending.TooMuch))) }
     ensures keeps { H.keeps shelf.new ≡ H.keeps shelf.old }
@@ -105,7 +104,7 @@ fn load<H: Shelf>(
 
 /// Writes the reply to a line, which is None where it is too long, and answers whether it is a
 /// refusal. A file that the line loads is read from the shelf.
-pub(crate) fn reply<H: Shelf>(
+pub(crate) fn answer_line<H: Shelf>(
     alloc: Global,
     limit: u64,
     text: &mut Text,
@@ -119,12 +118,12 @@ pub(crate) fn reply<H: Shelf>(
     requires sound { IsSound desk.old }
     requires short { IfSome line (λ line. length line.now ≤ 4096) }
     ensures ok { IfOk result (λ refused. (state : State) → IsDesk desk.old state
-        → GivesReply (record { limit = limit; keeps = H.keeps shelf.old }) state number (given_text line.entry) text.new refused (IsDesk desk.new)) }
+        → GivesReply (known limit (H.keeps shelf.old)) state number (given_text line.entry) text.new refused (IsDesk desk.new)) }
     ensures agrees { OnOk result (IfSome desk.new.opened Agrees) }
     ensures read { IsErrOf result Ending.ReadFault → Rose (H.faults shelf.old) (H.faults shelf.new)
         × ((state : State) → IsDesk desk.old state → Reaches state (given_text line.entry) (H.failed_name shelf.new)) }
     ensures too_much { IsErrOf result Ending.TooMuch → (state : State) → IsDesk desk.old state
-        → LoadsLong (record { limit = limit; keeps = H.keeps shelf.old }) state (given_text line.entry) (H.given shelf.old) (H.given shelf.new) }
+        → LoadsLong (known limit (H.keeps shelf.old)) state (given_text line.entry) (H.given shelf.old) (H.given shelf.new) }
     ensures errors { IfErr result (λ e. (e ≡ Ending.NoMemory) ⊎ ((e ≡ Ending.ReadFault) ⊎ (e ≡ Ending.TooMuch))) }
     ensures keeps { H.keeps shelf.new ≡ H.keeps shelf.old }
     ensures later { (H.faults shelf.old ≤ H.faults shelf.new) × (H.given shelf.old ≤ H.given shelf.new) }

@@ -1,15 +1,15 @@
 ghost use Rattle.std.specs.Prelude.{◌≡◌, ◌↔◌, IsTrue, ◌++◌, [], ◌+◌, ◌-◌, ◌≤◌, ℕ, length, IfSome, ◌⊎◌, ◌||◌, true, false};
 ghost use Rattle.etp_io.specs.Causes.{Rose};
 ghost use Rattle.etp_items.specs.Reading.{given_text};
-ghost use Rattle.etp_session.specs.States.{State};
-ghost use Rattle.etp_session.specs.Desks.{IsDesk, IsSound};
-ghost use Rattle.etp_session.specs.Given.{line_text, WritesNothing, WritesClose, WritesSomeOfClose, IsDone, IsCut, IsEnd, status_of};
+ghost use Rattle.etp_reply.specs.States.{State};
+ghost use Rattle.etp_reply.specs.Desks.{IsDesk, IsSound};
+ghost use Rattle.etp_session.specs.Endings.{line_text, WritesNothing, WritesClose, WritesSomeOfClose, IsDone, IsCut, IsEnd, status_of};
 ghost use Rattle.etp_session.specs.Ends.{EndsWell, WritesPrefix, WritesWholeLines, Takes, TakesWithin, StopsAtFault, StopsAtName, StopsAtLong};
+ghost use Rattle.etp_reply.specs.Shelves.{known};
 
-use crate::desk::Desk;
-use crate::loading::reply;
-use crate::reply::respond_at_end;
+use crate::loading::answer_line;
 use etp_io::{InFault, Lines, Next, Shelf, Sink, Source, write_all};
+use etp_reply::{Desk, respond_at_end};
 use etp_text::Text;
 use std::alloc::Global;
 
@@ -102,19 +102,19 @@ fn serve<S: Source, K: Sink, H: Shelf>(
 ) -> Ending
     requires { limit ≤ 134217728 }
 
-    ensures done { IsDone result (λ refused. EndsWell (record { limit = limit; keeps = H.keeps shelf.old }) (S.left source.old) (S.left source.new) (K.took sink.old) (K.took sink.new) (S.last source.new) refused) }
-    ensures cut { IsCut result (WritesPrefix (record { limit = limit; keeps = H.keeps shelf.old }) (S.left source.old) (K.took sink.old) (K.took sink.new)) }
+    ensures done { IsDone result (λ refused. EndsWell (known limit (H.keeps shelf.old)) (S.left source.old) (S.left source.new) (K.took sink.old) (K.took sink.new) (S.last source.new) refused) }
+    ensures cut { IsCut result (WritesPrefix (known limit (H.keeps shelf.old)) (S.left source.old) (K.took sink.old) (K.took sink.new)) }
 
     ensures read { result ≡ Ending.ReadFault
         → (Rose (S.faults source.old) (S.faults source.new)
-        × StopsAtFault (record { limit = limit; keeps = H.keeps shelf.old }) (S.left source.old) (S.left source.new) (K.took sink.old) (K.took sink.new) (S.given source.old) (S.given source.new))
+        × StopsAtFault (known limit (H.keeps shelf.old)) (S.left source.old) (S.left source.new) (K.took sink.old) (K.took sink.new) (S.given source.old) (S.given source.new))
         ⊎ (Rose (H.faults shelf.old) (H.faults shelf.new)
-        × StopsAtName (record { limit = limit; keeps = H.keeps shelf.old }) (S.left source.old) (S.left source.new) (K.took sink.old) (K.took sink.new) (S.given source.old) (S.given source.new) (H.failed_name shelf.new)) }
+        × StopsAtName (known limit (H.keeps shelf.old)) (S.left source.old) (S.left source.new) (K.took sink.old) (K.took sink.new) (S.given source.old) (S.given source.new) (H.failed_name shelf.new)) }
     ensures write { result ≡ Ending.WriteFault → Rose (K.faults sink.old) (K.faults sink.new) }
     ensures too_much { result ≡ Ending.TooMuch
         → (Takes (S.left source.old) (S.left source.new) (S.given source.old) (S.given source.new) (limit + 1)
-        × WritesWholeLines (record { limit = limit; keeps = H.keeps shelf.old }) (S.left source.old) (K.took sink.old) (K.took sink.new) (limit + 1 - S.last source.new))
-        ⊎ StopsAtLong (record { limit = limit; keeps = H.keeps shelf.old }) (S.left source.old) (S.left source.new) (K.took sink.old) (K.took sink.new) (S.given source.old) (S.given source.new) (H.given shelf.old) (H.given shelf.new) }
+        × WritesWholeLines (known limit (H.keeps shelf.old)) (S.left source.old) (K.took sink.old) (K.took sink.new) (limit + 1 - S.last source.new))
+        ⊎ StopsAtLong (known limit (H.keeps shelf.old)) (S.left source.old) (S.left source.new) (K.took sink.old) (K.took sink.new) (S.given source.old) (S.given source.new) (H.given shelf.old) (H.given shelf.new) }
     ensures within { (result ≡ Ending.TooMuch → ⊥) → TakesWithin (S.left source.old) (S.left source.new) (S.given source.old) (S.given source.new) limit }
     ensures keeps { H.keeps shelf.new ≡ H.keeps shelf.old }
 {
@@ -135,7 +135,7 @@ fn serve<S: Source, K: Sink, H: Shelf>(
         }
         let line = line_read(next, &lines);
         text.clear();
-        match reply(
+        match answer_line(
             alloc,
             limit,
             &mut text,
@@ -171,28 +171,28 @@ pub fn session<S: Source, K: Sink, H: Shelf>(
     requires { limit ≤ 134217728 }
 
     // At 0 and 1 the source and each name that was loaded were read to their ends and the whole text was written.
-    ensures well { result ≡ 0 → EndsWell (record { limit = limit; keeps = H.keeps shelf.old }) (S.left source.old) (S.left source.new) (K.took sink.old) (K.took sink.new) (S.last source.new) false }
-    ensures refused { result ≡ 1 → EndsWell (record { limit = limit; keeps = H.keeps shelf.old }) (S.left source.old) (S.left source.new) (K.took sink.old) (K.took sink.new) (S.last source.new) true }
+    ensures well { result ≡ 0 → EndsWell (known limit (H.keeps shelf.old)) (S.left source.old) (S.left source.new) (K.took sink.old) (K.took sink.new) (S.last source.new) false }
+    ensures refused { result ≡ 1 → EndsWell (known limit (H.keeps shelf.old)) (S.left source.old) (S.left source.new) (K.took sink.old) (K.took sink.new) (S.last source.new) true }
 
     // At 3 a read failed: one of the source, and the lines that stand whole in the bytes taken were answered;
     // or one of the shelf in a `load` of the name that failed last, and the lines before it were.
     ensures read { result ≡ 3
         → (Rose (S.faults source.old) (S.faults source.new)
-        × StopsAtFault (record { limit = limit; keeps = H.keeps shelf.old }) (S.left source.old) (S.left source.new) (K.took sink.old) (K.took sink.new) (S.given source.old) (S.given source.new))
+        × StopsAtFault (known limit (H.keeps shelf.old)) (S.left source.old) (S.left source.new) (K.took sink.old) (K.took sink.new) (S.given source.old) (S.given source.new))
         ⊎ (Rose (H.faults shelf.old) (H.faults shelf.new)
-        × StopsAtName (record { limit = limit; keeps = H.keeps shelf.old }) (S.left source.old) (S.left source.new) (K.took sink.old) (K.took sink.new) (S.given source.old) (S.given source.new) (H.failed_name shelf.new)) }
+        × StopsAtName (known limit (H.keeps shelf.old)) (S.left source.old) (S.left source.new) (K.took sink.old) (K.took sink.new) (S.given source.old) (S.given source.new) (H.failed_name shelf.new)) }
 
     // At 4 a write failed; at 4 and 5 a prefix of the text was written.
     ensures write { result ≡ 4 → Rose (K.faults sink.old) (K.faults sink.new) }
-    ensures write_end { result ≡ 4 → WritesPrefix (record { limit = limit; keeps = H.keeps shelf.old }) (S.left source.old) (K.took sink.old) (K.took sink.new) }
-    ensures memory_end { result ≡ 5 → WritesPrefix (record { limit = limit; keeps = H.keeps shelf.old }) (S.left source.old) (K.took sink.old) (K.took sink.new) }
+    ensures write_end { result ≡ 4 → WritesPrefix (known limit (H.keeps shelf.old)) (S.left source.old) (K.took sink.old) (K.took sink.new) }
+    ensures memory_end { result ≡ 5 → WritesPrefix (known limit (H.keeps shelf.old)) (S.left source.old) (K.took sink.old) (K.took sink.new) }
 
     // At 6 one byte more than the limit was taken: of the source, and the lines that stand whole in the bytes before the last
     // read were answered; or of a name in a `load`, and the lines before it were.
     ensures too_much { result ≡ 6
         → (Takes (S.left source.old) (S.left source.new) (S.given source.old) (S.given source.new) (limit + 1)
-        × WritesWholeLines (record { limit = limit; keeps = H.keeps shelf.old }) (S.left source.old) (K.took sink.old) (K.took sink.new) (limit + 1 - S.last source.new))
-        ⊎ StopsAtLong (record { limit = limit; keeps = H.keeps shelf.old }) (S.left source.old) (S.left source.new) (K.took sink.old) (K.took sink.new) (S.given source.old) (S.given source.new) (H.given shelf.old) (H.given shelf.new) }
+        × WritesWholeLines (known limit (H.keeps shelf.old)) (S.left source.old) (K.took sink.old) (K.took sink.new) (limit + 1 - S.last source.new))
+        ⊎ StopsAtLong (known limit (H.keeps shelf.old)) (S.left source.old) (S.left source.new) (K.took sink.old) (K.took sink.new) (S.given source.old) (S.given source.new) (H.given shelf.old) (H.given shelf.new) }
     ensures within { (result ≡ 6 → ⊥) → TakesWithin (S.left source.old) (S.left source.new) (S.given source.old) (S.given source.new) limit }
 
     ensures statuses { (result ≤ 6) × (result ≡ 2 → ⊥) }

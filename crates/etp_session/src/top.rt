@@ -1,63 +1,23 @@
 ghost use Rattle.std.specs.Prelude.{◌≡◌, ◌∷◌, [], ◌+◌, ◌-◌, ◌≤◌, ◌↔◌, ◌⊎◌, ℕ, List, Bool, false, true, map, vec_len, Some, IfSome, length};
 ghost use Rattle.std.specs.String.{string_bytes};
 ghost use Rattle.etp_io.specs.Causes.{Rose};
-ghost use Rattle.etp_session.specs.Arguments.{task_of, IsTask};
-ghost use Rattle.etp_session.specs.Commands.{operations_of};
+ghost use Rattle.etp_command.specs.Arguments.{task_of, IsTask};
+ghost use Rattle.etp_command.specs.Commands.{operations_of};
 ghost use Rattle.etp_session.specs.Listings.{ListsLaws};
 ghost use Rattle.etp_session.specs.Sessions.{IsSession, IsWholeSession};
 ghost use Rattle.etp_io.specs.Kept.{kept_or_empty};
 ghost use Rattle.std.specs.declared.option.Option.{Option};
 ghost use Rattle.etp_session.specs.Ends.{EndsWell, WritesPrefix, WritesWholeLines, Takes, TakesWithin, StopsAtFault, StopsAtName, StopsAtLong};
+ghost use Rattle.etp_reply.specs.Shelves.{known};
 
-use crate::command::ListOrder;
 use crate::listing::list_laws;
 use crate::serving::session;
+use etp_command::{ListOrder, Task, task_of};
 use etp_io::{Shelf, Sink, Source, SureShelf, SureSink, SureSource};
-use etp_items::is;
 use std::alloc::Global;
 
 /// The most bytes of a source.
 const LIMIT: u64 = 134_217_728;
-
-/// What the words of the command line ask.
-#[derive(Clone, Copy, Debug, PartialEq, Eq)]
-pub enum Task {
-    Session,
-    Laws(ListOrder),
-    Unknown,
-}
-
-fn task_of(words: &[String]) -> Task
-    ensures { result ≡ task_of (map string_bytes words.now) }
-{
-    match words {
-        [] => Task::Session,
-        [word] => task_of_word(word.as_bytes()),
-        [word, other] => task_of_words(word.as_bytes(), other.as_bytes()),
-        _ => Task::Unknown,
-    }
-}
-
-fn task_of_word(word: &[u8]) -> Task
-    ensures { result ≡ task_of (word.now ∷ []) }
-{
-    if is(word, "session") {
-        return Task::Session;
-    }
-    if is(word, "laws") {
-        return Task::Laws(ListOrder::Four);
-    }
-    Task::Unknown
-}
-
-fn task_of_words(word: &[u8], other: &[u8]) -> Task
-    ensures { result ≡ task_of (word.now ∷ other.now ∷ []) }
-{
-    if is(word, "laws") && is(other, "5") {
-        return Task::Laws(ListOrder::Five);
-    }
-    Task::Unknown
-}
 
 /// Does what the words of the command line ask, and answers the status.
 ///
@@ -75,28 +35,28 @@ pub fn run<S: Source, K: Sink, H: Shelf>(
     ensures untouched { result ≡ 2 → (source.new ≡ source.old) × (sink.new ≡ sink.old) × (shelf.new ≡ shelf.old) }
 
     // A session, at 0 and 1: the source and each name that was loaded were read to their ends and the whole text was written.
-    ensures well { IsTask (map string_bytes words.now) Task.Session → result ≡ 0 → EndsWell (record { limit = 134217728; keeps = H.keeps shelf.old }) (S.left source.old) (S.left source.new) (K.took sink.old) (K.took sink.new) (S.last source.new) false }
-    ensures refused { result ≡ 1 → EndsWell (record { limit = 134217728; keeps = H.keeps shelf.old }) (S.left source.old) (S.left source.new) (K.took sink.old) (K.took sink.new) (S.last source.new) true }
+    ensures well { IsTask (map string_bytes words.now) Task.Session → result ≡ 0 → EndsWell (known 134217728 (H.keeps shelf.old)) (S.left source.old) (S.left source.new) (K.took sink.old) (K.took sink.new) (S.last source.new) false }
+    ensures refused { result ≡ 1 → EndsWell (known 134217728 (H.keeps shelf.old)) (S.left source.old) (S.left source.new) (K.took sink.old) (K.took sink.new) (S.last source.new) true }
 
     // At 3 a read failed: one of the source, and the lines that stand whole in the bytes taken were answered;
     // or one of the shelf in a `load` of the name that failed last, and the lines before it were.
     ensures read { result ≡ 3
         → (Rose (S.faults source.old) (S.faults source.new)
-        × StopsAtFault (record { limit = 134217728; keeps = H.keeps shelf.old }) (S.left source.old) (S.left source.new) (K.took sink.old) (K.took sink.new) (S.given source.old) (S.given source.new))
+        × StopsAtFault (known 134217728 (H.keeps shelf.old)) (S.left source.old) (S.left source.new) (K.took sink.old) (K.took sink.new) (S.given source.old) (S.given source.new))
         ⊎ (Rose (H.faults shelf.old) (H.faults shelf.new)
-        × StopsAtName (record { limit = 134217728; keeps = H.keeps shelf.old }) (S.left source.old) (S.left source.new) (K.took sink.old) (K.took sink.new) (S.given source.old) (S.given source.new) (H.failed_name shelf.new)) }
+        × StopsAtName (known 134217728 (H.keeps shelf.old)) (S.left source.old) (S.left source.new) (K.took sink.old) (K.took sink.new) (S.given source.old) (S.given source.new) (H.failed_name shelf.new)) }
 
     // At 4 a write failed; in a session a prefix of the text was written at 4 and 5.
     ensures write { result ≡ 4 → Rose (K.faults sink.old) (K.faults sink.new) }
-    ensures write_end { IsTask (map string_bytes words.now) Task.Session → result ≡ 4 → WritesPrefix (record { limit = 134217728; keeps = H.keeps shelf.old }) (S.left source.old) (K.took sink.old) (K.took sink.new) }
-    ensures memory_end { IsTask (map string_bytes words.now) Task.Session → result ≡ 5 → WritesPrefix (record { limit = 134217728; keeps = H.keeps shelf.old }) (S.left source.old) (K.took sink.old) (K.took sink.new) }
+    ensures write_end { IsTask (map string_bytes words.now) Task.Session → result ≡ 4 → WritesPrefix (known 134217728 (H.keeps shelf.old)) (S.left source.old) (K.took sink.old) (K.took sink.new) }
+    ensures memory_end { IsTask (map string_bytes words.now) Task.Session → result ≡ 5 → WritesPrefix (known 134217728 (H.keeps shelf.old)) (S.left source.old) (K.took sink.old) (K.took sink.new) }
 
     // At 6 one byte more than the limit was taken: of the source, and the lines that stand whole in the bytes before the last
     // read were answered; or of a name in a `load`, and the lines before it were.
     ensures too_much { result ≡ 6
         → (Takes (S.left source.old) (S.left source.new) (S.given source.old) (S.given source.new) 134217729
-        × WritesWholeLines (record { limit = 134217728; keeps = H.keeps shelf.old }) (S.left source.old) (K.took sink.old) (K.took sink.new) (134217729 - S.last source.new))
-        ⊎ StopsAtLong (record { limit = 134217728; keeps = H.keeps shelf.old }) (S.left source.old) (S.left source.new) (K.took sink.old) (K.took sink.new) (S.given source.old) (S.given source.new) (H.given shelf.old) (H.given shelf.new) }
+        × WritesWholeLines (known 134217728 (H.keeps shelf.old)) (S.left source.old) (K.took sink.old) (K.took sink.new) (134217729 - S.last source.new))
+        ⊎ StopsAtLong (known 134217728 (H.keeps shelf.old)) (S.left source.old) (S.left source.new) (K.took sink.old) (K.took sink.new) (S.given source.old) (S.given source.new) (H.given shelf.old) (H.given shelf.new) }
     ensures within { IsTask (map string_bytes words.now) Task.Session → (result ≡ 6 → ⊥) → TakesWithin (S.left source.old) (S.left source.new) (S.given source.old) (S.given source.new) 134217728 }
 
     // The list of laws: at 0 all was written, at 4 and 5 a prefix, and nothing was read.
@@ -117,7 +77,7 @@ pub fn run<S: Source, K: Sink, H: Shelf>(
 /// are equal, and both have a refusal line or neither has.
 pub fn one_text()
     ensures { (limit : ℕ) (kept : List ℕ → Option (List ℕ)) (bytes text other : List ℕ) (refused also : Bool)
-        → IsSession (record { limit = limit; keeps = Some kept }) bytes text refused → IsSession (record { limit = limit; keeps = Some kept }) bytes other also
+        → IsSession (known limit (Some kept)) bytes text refused → IsSession (known limit (Some kept)) bytes other also
         → (text ≡ other) × (refused ≡ also) }
 {}
 
@@ -129,8 +89,8 @@ pub fn run_in_memory(alloc: Global, words: &[String], bytes: Vec<u8>, shelf: &mu
     requires within { vec_len bytes ≤ 134217728 }
     requires names_within { (name : List ℕ) → length (kept_or_empty shelf.old.entries.items name) ≤ 134217728 }
     ensures statuses { (result ≡ 0) ⊎ (result ≡ 1) ⊎ (result ≡ 5) }
-    ensures well { result ≡ 0 → (text : List ℕ) × IsWholeSession (record { limit = 134217728; keeps = Some (λ name. Some (kept_or_empty shelf.old.entries.items name)) }) bytes.items text false }
-    ensures refused { result ≡ 1 → (text : List ℕ) × IsWholeSession (record { limit = 134217728; keeps = Some (λ name. Some (kept_or_empty shelf.old.entries.items name)) }) bytes.items text true }
+    ensures well { result ≡ 0 → (text : List ℕ) × IsWholeSession (known 134217728 (Some (λ name. Some (kept_or_empty shelf.old.entries.items name)))) bytes.items text false }
+    ensures refused { result ≡ 1 → (text : List ℕ) × IsWholeSession (known 134217728 (Some (λ name. Some (kept_or_empty shelf.old.entries.items name)))) bytes.items text true }
 {
     let mut source = SureSource::of(bytes);
     let mut sink = SureSink::of();

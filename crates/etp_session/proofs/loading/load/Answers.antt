@@ -1,4 +1,4 @@
-use Rattle.etp_session.proofs.StateAnswers.{answers-loaded}
+use Rattle.etp_session.proofs.LoadAnswers.{answers-loaded}
 use Rattle.etp_session.proofs.loading.load.Goals as goal
 
 pub returns-in-Ok-answer_file-clause-ok : goal.returns-in-Ok-answer_file-clause-ok

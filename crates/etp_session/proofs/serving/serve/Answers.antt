@@ -1,5 +1,5 @@
 use Rattle.std.proofs.Common.{arith, ◌≡◌, ◌+◌, ap, inl, inr, ◌∙◌}
-use Rattle.etp_session.proofs.FileAnswers.{untrue}
+use Rattle.etp_reply.proofs.FileAnswers.{untrue}
 use Rattle.std.specs.Prelude.{Err}
 use Rattle.etp_io.specs.declared.lines.Next.TheVariants.{End}
 use Rattle.etp_session.proofs.Running.{running-then, ends-well, ends-in_reply, ends-before_close, ends-between, ends-in_close, takes-within, takes-now, stops, stops-at_fault, stops-at_name, goes-on, done-close, cut-close, not_done, cut_before, no_write, no_read, no_limit}
@@ -109,8 +109,8 @@ returns-in-Err-clause-within g c n =
 pub returns-in-Err-write_all-clause-cut : goal.returns-in-Err-write_all-clause-cut
 returns-in-Err-write_all-clause-cut g c =
     let more : c.in-Ok-next.next ≡ End → ⊥ = untrue c.is_end.result _ c.is_end.ensures c.if-is_end.false in
-    ends-in_reply _ _ _ _ _ _ _ _ _ _ _ c.next.new.self _ c.in-Ok-reply.also c.in-Ok-next.next c.reply.new.text _ _ c.served.invariant.0
-    c.in-Ok-next.ensures.lines more c.in-Ok-next.ensures.number (λ state now. rw (c.line_read-line.ensures.text, c.number.ensures.number, c.served.invariant.6) at (c.in-Ok-reply.ensures.ok state now))
+    ends-in_reply _ _ _ _ _ _ _ _ _ _ _ c.next.new.self _ c.in-Ok-answer_line.also c.in-Ok-next.next c.answer_line.new.text _ _ c.served.invariant.0
+    c.in-Ok-next.ensures.lines more c.in-Ok-next.ensures.number (λ state now. rw (c.line_read-line.ensures.text, c.number.ensures.number, c.served.invariant.6) at (c.in-Ok-answer_line.ensures.ok state now))
     (rw c.as_slice.ensures at c.in-Err-write_all.ensures.err)
 
 pub returns-in-Err-write_all-clause-within : goal.returns-in-Err-write_all-clause-within
@@ -122,15 +122,15 @@ pub served-preserved : goal.served-preserved
 served-preserved g c =
     let more : c.in-Ok-next.next ≡ End → ⊥ = untrue c.is_end.result _ c.is_end.ensures c.if-is_end.false in (
       rw c.either-refused.ensures
-          (running-then _ _ _ _ _ _ _ _ _ _ _ _ _ c.next.new.self _ c.in-Ok-reply.also c.in-Ok-next.next c.reply.new.text _ _ c.served.invariant.0
+          (running-then _ _ _ _ _ _ _ _ _ _ _ _ _ c.next.new.self _ c.in-Ok-answer_line.also c.in-Ok-next.next c.answer_line.new.text _ _ c.served.invariant.0
           c.next.ensures.fits c.in-Ok-next.ensures.lines more c.in-Ok-next.ensures.number c.in-Ok-next.ensures.ok c.next.ensures.says c.next.ensures.limit
           (omega (arith, c.number.ensures.counted)) c.next.ensures.taken c.next.ensures.loses c.next.ensures.given
-          (λ state now. rw (c.line_read-line.ensures.text, c.number.ensures.number, c.served.invariant.6) at (c.in-Ok-reply.ensures.ok state now))
+          (λ state now. rw (c.line_read-line.ensures.text, c.number.ensures.number, c.served.invariant.6) at (c.in-Ok-answer_line.ensures.ok state now))
           (rw c.as_slice.ensures at c.in-Ok-write_all.ensures.ok)),
-      c.in-Ok-reply.ensures.agrees,
+      c.in-Ok-answer_line.ensures.agrees,
       omega (arith, c.served.invariant.2, c.next.ensures.later),
       omega (arith, c.served.invariant.3, c.write_all.ensures.cause.later),
-      omega (arith, c.served.invariant.4, c.reply.ensures.later.0),
-      omega (arith, c.served.invariant.5, c.reply.ensures.later.1),
-      c.reply.ensures.keeps ∙ c.served.invariant.6,
+      omega (arith, c.served.invariant.4, c.answer_line.ensures.later.0),
+      omega (arith, c.served.invariant.5, c.answer_line.ensures.later.1),
+      c.answer_line.ensures.keeps ∙ c.served.invariant.6,
     )

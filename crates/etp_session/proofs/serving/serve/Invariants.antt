@@ -1,6 +1,6 @@
 use Rattle.std.proofs.Common.{◌≡◌, ◌+◌, ◌-◌, ◌≤◌}
 use Rattle.std.specs.Option.{IfSome}
-use Rattle.etp_session.specs.Desks.{Agrees, IsDesk}
+use Rattle.etp_reply.specs.Desks.{Agrees, IsDesk}
 use Rattle.etp_session.proofs.Running.{Running}
 use Rattle.etp_session.proofs.serving.serve.Given as goal
 

@@ -1,0 +1,12 @@
+use Rattle.std.proofs.Common.{sym, ◌∙◌}
+use Rattle.etp_items.specs.Reading.{given_text}
+use Rattle.etp_reply.proofs.StateAnswers.{closes-body, goes-on-body}
+use Rattle.etp_reply.proofs.reply.respond_in_body.Goals as goal
+
+pub returns-then-closes_body-clause-gives : goal.returns-then-closes_body-clause-gives
+returns-then-closes_body-clause-gives c s state number at =
+    closes-body s c.in-Some.opened c.answer_file.new.opened c.args.filing number (given_text c.args.line) c.answer_file.new.text c.in_ok-refused.refused state (sym c.closes_body.ensures ∙ c.if-closes_body.true) (rw c.in-Some.is at at) c.in_ok-refused.ensures
+
+pub returns-clause-gives : goal.returns-clause-gives
+returns-clause-gives c s state number at =
+    goes-on-body s c.in-Some.opened c.args.filing c.in_ok-take_line.field-0 number c.args.line c.args.text.now state (sym c.closes_body.ensures ∙ c.if-closes_body.false) c.requires.empty (rw c.in-Some.is at at) c.in_ok-take_line.ensures

@@ -1,0 +1,121 @@
+-- What a request is answered.
+use Rattle.std.specs.Prelude.{◌≡◌, ◌≢◌, ℕ, ◌<◌, ◌≤◌, List, [], ◌∷◌, ◌++◌, codes, decimal, true, false, None, Some}
+use Rattle.std.specs.declared.option.Option.{Option}
+use Rattle.etp_theory.specs.Trees.{Equation, leaves, law_ops, law_dual}
+use Rattle.etp_laws.specs.LawLists.{entry_at, IsNumberOf, IsTrivial}
+use Rattle.etp_text.specs.Written.{written_law}
+use Rattle.etp_text.specs.Grammar.{SpellsLaw}
+use Rattle.etp_text.specs.Refusals.{RefusesLaw, side_limit}
+use Rattle.etp_text.specs.declared.refusal.TextRefusal.{TextRefusal}
+use Rattle.etp_text.specs.declared.refusal.TextRefusal.TheVariants.{NoMemory}
+use Rattle.etp_io.specs.Texts.{LineText}
+use Rattle.etp_ledger.specs.Files.{File}
+use Rattle.etp_reply.specs.Texts.{Reply, silent, answered, refused}
+use Rattle.etp_reply.specs.RefusalTexts.{text_refusal}
+use Rattle.etp_command.specs.Requests.{Request, blank, long, order, law, number, dual, ask, file, load, withdraw, files, counts, not_built, bad, asked}
+use Rattle.etp_reply.specs.States.{Opened, Opens, Filing, State, unopened, over, filing, stopped}
+use Rattle.etp_reply.specs.LedgerReplies.{AskReply, CountsReply, files_text, WithdrawReply}
+use Rattle.etp_reply.specs.Bodies.{BodyReply, FileReply, HasFreeName}
+use Rattle.etp_reply.specs.Shelves.{KnownShelf, IsLoaded, HasNoLines}
+
+-- a law with its number before it, as a line
+abbrev pub law_line : ℕ → Equation → List ℕ
+law_line n p = decimal n ++ codes " " ++ written_law p ++ 10 ∷ []
+
+-- law n, or that there is none
+abbrev pub law_reply : ℕ → Option Equation → Reply
+law_reply n None = refused (codes "unknown law " ++ decimal n)
+law_reply n (Some p) = answered (law_line n p)
+
+-- the reply to the number of a law, where these are the laws of at most k operations
+pub data NumberedReply (k : ℕ) (laws : List Equation) (p : Equation) (reply : Reply) : Type 0 where
+  too_many : k < law_ops p → reply ≡ refused (codes "operations " ++ decimal (law_ops p)) → NumberedReply k laws p reply
+  trivial : law_ops p ≤ k → IsTrivial p → reply ≡ refused (codes "trivial") → NumberedReply k laws p reply
+  numbered : (n : ℕ) → law_ops p ≤ k → IsNumberOf laws p n → reply ≡ law_reply n (entry_at laws n) → NumberedReply k laws p reply
+
+-- the reply to a law's text
+pub data NumberReply (k : ℕ) (laws : List Equation) (text : List ℕ) (reply : Reply) : Type 0 where
+  unread : (refusal : TextRefusal) → RefusesLaw text refusal → refusal ≢ NoMemory → reply ≡ refused (text_refusal refusal) → NumberReply k laws text reply
+  read : (p : Equation) → SpellsLaw text p → leaves p.left ≤ side_limit → leaves p.right ≤ side_limit → NumberedReply k laws p reply → NumberReply k laws text reply
+
+-- the law that is the same as the dual of law n, or that there is no law n
+abbrev pub DualReply : List Equation → ℕ → Option Equation → Reply → Type 0
+DualReply laws n None reply = reply ≡ law_reply n None
+DualReply laws n (Some p) reply = (m : ℕ) × IsNumberOf laws (law_dual p) m × (reply ≡ law_reply m (entry_at laws m))
+
+-- a request has this reply, and these files stand after it
+abbrev pub Answers : Opened → Request → Reply → List File → Type 0
+Answers o blank reply after = (reply ≡ silent) × (after ≡ o.files)
+Answers o long reply after = (reply ≡ refused (codes "long line")) × (after ≡ o.files)
+Answers o (order k) reply after = (reply ≡ refused (codes "bad line")) × (after ≡ o.files)
+Answers o (law n) reply after = (reply ≡ law_reply n (entry_at o.laws.equations n)) × (after ≡ o.files)
+Answers o (number text) reply after = NumberReply o.laws.order o.laws.equations text reply × (after ≡ o.files)
+Answers o (dual n) reply after = DualReply o.laws.equations n (entry_at o.laws.equations n) reply × (after ≡ o.files)
+Answers o (ask e f) reply after = AskReply o e f reply × (after ≡ o.files)
+Answers o (file word) reply after = ⊥
+Answers o (load word) reply after = ⊥
+Answers o (withdraw word) reply after = WithdrawReply o.files word reply after
+Answers o files reply after = (reply ≡ answered (files_text o.files)) × (after ≡ o.files)
+Answers o counts reply after = CountsReply o reply × (after ≡ o.files)
+Answers o not_built reply after = (reply ≡ refused (codes "not built")) × (after ≡ o.files)
+Answers o bad reply after = (reply ≡ refused (codes "bad line")) × (after ≡ o.files)
+
+-- a file that line n loads under this word, with these body lines
+abbrev pub loading : ℕ → List ℕ → List LineText → Filing
+loading n word lines = record { number = n; word = Some word; lines = lines }
+
+-- The reply to line n, which loads a file. The shelf is reached only where the word is a name and is
+-- free; the whole bytes of the name are then the body, which their end closes. Where the name isn't
+-- there, or has more bytes than the limit, the text is over.
+pub data LoadReply (s : KnownShelf) (o : Opened) (n : ℕ) (word : List ℕ) (reply : Reply) (after : State) : Type 0 where
+  unreached : (files : List File) → (HasFreeName o.files (Some word) word → ⊥) → FileReply o (loading n word []) true reply files
+      → after ≡ over (record { laws = o.laws; files = files }) → LoadReply s o n word reply after
+  loaded : (lines : List LineText) (files : List File) → HasFreeName o.files (Some word) word → IsLoaded s word lines
+      → FileReply o (loading n word lines) true reply files
+      → after ≡ over (record { laws = o.laws; files = files }) → LoadReply s o n word reply after
+  missing : HasFreeName o.files (Some word) word → HasNoLines s word → reply ≡ silent → after ≡ stopped → LoadReply s o n word reply after
+
+-- the reply to line n once the laws stand: `file` opens a body, any other request is answered
+abbrev pub OpenReply : KnownShelf → Opened → ℕ → Request → Reply → State → Type 0
+OpenReply s o n (file word) reply after = (reply ≡ silent) × (after ≡ filing o (record { number = n; word = word; lines = [] }))
+OpenReply s o n (load word) reply after = LoadReply s o n word reply after
+OpenReply s o n request reply after = (files : List File) × Answers o request reply files × (after ≡ over (record { laws = o.laws; files = files }))
+
+-- The reply to line n where nothing stands yet. The first that isn't blank may be `order`; it sets the
+-- order, which is 4 otherwise, and writes nothing.
+abbrev pub FirstReply : KnownShelf → ℕ → Request → Reply → State → Type 0
+FirstReply s n blank reply after = (reply ≡ silent) × (after ≡ unopened)
+FirstReply s n (order k) reply after = (o : Opened) × Opens k o × (reply ≡ silent) × (after ≡ over o)
+FirstReply s n request reply after = (o : Opened) × Opens 4 o × OpenReply s o n request reply after
+
+-- line n has this reply and leaves this state
+abbrev pub Replies : KnownShelf → State → ℕ → LineText → Reply → State → Type 0
+Replies s unopened n line reply after = FirstReply s n (asked line) reply after
+Replies s (over o) n line reply after = OpenReply s o n (asked line) reply after
+Replies s (filing o f) n line reply after = BodyReply o f line reply after
+Replies s stopped n line reply after = (reply ≡ silent) × (after ≡ stopped)
+
+-- the request loads a file, and its name is free
+abbrev pub LoadsName : List File → Request → List ℕ → Type 0
+LoadsName standing request name = (request ≡ load name) × HasFreeName standing (Some name) name
+
+-- the line loads a file, and the shelf is reached for this name
+abbrev pub Reaches : State → LineText → List ℕ → Type 0
+Reaches unopened line name = LoadsName [] (asked line) name
+Reaches (over o) line name = LoadsName o.files (asked line) name
+Reaches (filing o f) line name = ⊥
+Reaches stopped line name = ⊥
+
+-- the source ends here: a body that is being read isn't closed
+abbrev pub Closes : State → Reply → Type 0
+Closes unopened reply = reply ≡ silent
+Closes (over o) reply = reply ≡ silent
+Closes (filing o f) reply = (after : List File) × FileReply o f false reply after
+Closes stopped reply = reply ≡ silent
+
+-- the number of the line that is answered: that of the file where a body is read
+abbrev pub answered_line : State → ℕ → ℕ
+answered_line unopened n = n
+answered_line (over o) n = n
+answered_line (filing o f) n = f.number
+answered_line stopped n = n

@@ -1,0 +1,35 @@
+use crate::{Desk, Outcome, respond, respond_at_end, take_line};
+use etp_text::Text;
+
+#[test]
+fn a_command_is_answered(rt: HostRuntime) {
+    let alloc = rt.alloc();
+    let mut desk = Desk::start();
+    let mut text = Text::empty(alloc);
+    let outcome = respond(alloc, &mut text, &mut desk, Some(b"law 43"), 1).expect(&rt, "memory");
+    assert!(rt; matches!(&outcome, Outcome::Replied(false)));
+    assert!(rt; text.as_slice() == "43 x ◇ y = y ◇ x\n".as_bytes());
+}
+
+#[test]
+fn the_lines_of_a_file_are_taken(rt: HostRuntime) {
+    let alloc = rt.alloc();
+    let mut desk = Desk::start();
+    let mut text = Text::empty(alloc);
+    let outcome = respond(alloc, &mut text, &mut desk, Some(b"file f"), 7).expect(&rt, "memory");
+    let Outcome::Reads(filing) = outcome else {
+        panic!(rt; "no file is read");
+    };
+    let filing = take_line(filing, Some(b"proof 43 43")).expect(&rt, "memory");
+    assert_eq!(rt; filing.number, 7);
+    assert_eq!(rt; text.len(), 0);
+}
+
+#[test]
+fn nothing_is_open_at_the_end(rt: HostRuntime) {
+    let alloc = rt.alloc();
+    let mut desk = Desk::start();
+    let mut text = Text::empty(alloc);
+    let refused = respond_at_end(alloc, &mut text, &mut desk).expect(&rt, "memory");
+    assert!(rt; !refused);
+}
