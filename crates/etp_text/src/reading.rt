@@ -17,7 +17,7 @@ use std::mem;
 /// or two with an operator between.
 #[derive(Drop)]
 pub(crate) enum Part {
-    Wanted(Option<Term>),
+    Wanted(Option<Boxed<Term>>),
     Atom(Term),
     Pair(Term),
 }
@@ -25,7 +25,7 @@ pub(crate) enum Part {
 /// What stands before each open parenthesis.
 #[derive(Drop)]
 pub(crate) struct Parentheses {
-    parts: Vec<Option<Term>>,
+    parts: Vec<Option<Boxed<Term>>>,
 }
 
 impl Model for Parentheses {
@@ -50,14 +50,14 @@ impl Parentheses {
         }
     }
 
-    fn push(&mut self, part: Option<Term>) -> Result<(), AllocError>
+    fn push(&mut self, part: Option<Boxed<Term>>) -> Result<(), AllocError>
         ensures { OnOk result (self.new ≡ part ∷ self.old) }
     {
         self.parts.push(part)?;
         Ok(())
     }
 
-    fn pop(&mut self) -> Option<Option<Term>>
+    fn pop(&mut self) -> Option<Option<Boxed<Term>>>
         ensures { MatchOption result (self.old ≡ []) (λ part. self.old ≡ part ∷ self.new) }
     {
         self.parts.pop()
@@ -113,7 +113,7 @@ impl Reading {
     fn begin(
         &mut self,
         alloc: Global,
-        before: Option<Term>,
+        before: Option<Boxed<Term>>,
         token: Token,
         at: u32,
     ) -> Result<(), TextRefusal>
@@ -144,7 +144,7 @@ impl Reading {
     {
         match token {
             Token::Operator => {
-                self.part = Part::Wanted(Some(side));
+                self.part = Part::Wanted(Some(Boxed::new(alloc, side)?));
                 Ok(())
             }
             _ => self.end(alloc, laws, side, token, at),
@@ -214,11 +214,11 @@ impl Reading {
 }
 
 /// An atom where one was wanted.
-fn placed(alloc: Global, before: Option<Term>, atom: Term) -> Result<Part, AllocError>
+fn placed(alloc: Global, before: Option<Boxed<Term>>, atom: Term) -> Result<Part, AllocError>
     ensures { IfOk result (λ part. stand_of part ≡ placed (option_map tree_of before) (tree_of atom)) }
 {
     match before {
         None => Ok(Part::Atom(atom)),
-        Some(left) => Ok(Part::Pair(Term::Op(Boxed::new(alloc, left)?, Boxed::new(alloc, atom)?))),
+        Some(left) => Ok(Part::Pair(Term::Op(left, Boxed::new(alloc, atom)?))),
     }
 }
