@@ -1,42 +1,31 @@
 -- What a valid body says is right where what it cites is.
-use Rattle.std.proofs.Common.{◌≡◌, ℕ, zero, suc, ◌-◌, List, Contains, Option, Some, None, IsSome, is_some, unwrap_or, true≢false, refl, length, map, slice_get, sym, ap, subst, ◌∙◌, arith}
+use Rattle.std.proofs.Common.{◌≡◌, ℕ, zero, suc, List, Contains, Option, Some, None, IsSome, is_some, unwrap_or, true≢false, refl, length, map, slice_get, sym, ap, subst, ◌∙◌, arith}
 use Rattle.std.specs.Option.{option_map}
 use Rattle.std.proofs.lemmas.Option.{slice_get-map, slice_get_within, get_or_from_slice_get}
 use Rattle.etp_theory.specs.Trees.{Equation}
 use Rattle.etp_theory.specs.Derivations.{Derives}
 use Rattle.etp_theory.specs.Proofs.{AllDerived}
-use Rattle.etp_theory.specs.RightFacts.{law_numbered, Implies, IsRightFact}
+use Rattle.etp_theory.specs.Numbered.{IsLaw, law_numbered}
+use Rattle.etp_theory.specs.RightFacts.{Implies, IsRightFact}
 use Rattle.etp_theory.proofs.Proofs.{proved}
-use Rattle.etp_laws.specs.LawLists.{entry_at}
 use Rattle.etp_laws.specs.Listing.{trivial}
-use Rattle.etp_laws.proofs.Entries.{entry_after, entry_zero}
-use Rattle.etp_closure.specs.Closures.{IsLaw}
+use Rattle.etp_laws.proofs.Entries.{entry_zero}
 use Rattle.etp_replay.specs.Validity.{law_at}
 use Rattle.etp_replay.proofs.Goals.{listed_law}
 use Rattle.etp_items.specs.Bodies.{FileBody, proof}
 use Rattle.etp_check.specs.Checks.{fact_said, hypothesis_of, IsListedBody, IsValidBody, HasLaws}
 
--- laws by their numbers, in two spellings
-pub numbered_entry : (laws : List Equation) (n : ℕ) → law_numbered laws n ≡ entry_at laws n
-numbered_entry laws zero = sym (entry_zero laws 0 refl)
-numbered_entry laws (suc k) =
-    let same : k ≡ suc k - 1 = omega arith in
-    ap (slice_get laws) same ∙ sym (entry_after laws (suc k) (omega arith))
-
-pub numbered_law : (laws : List Equation) (n : ℕ) → IsSome (entry_at laws n) → law_numbered laws n ≡ Some (law_at laws n)
-numbered_law laws n listed = numbered_entry laws n ∙ listed_law laws n listed
-
 same_some : (p q : Equation) → Some p ≡ Some q → p ≡ q
 same_some p q e = cc
 
-module _ (laws : List Equation) (hypothesis : ℕ) (cited : List ℕ) (listed : IsSome (entry_at laws hypothesis))
+module _ (laws : List Equation) (hypothesis : ℕ) (cited : List ℕ) (listed : IsSome (law_numbered laws hypothesis))
     (right : (n : ℕ) → Contains cited n → Implies laws hypothesis n) where
   -- the law of a cited number is derived
   one_derived : (n : ℕ) → Contains cited n → Derives (law_at laws hypothesis) (law_at laws n)
   one_derived n there =
       let i = right n there in
-      let from = same_some i.hypothesis (law_at laws hypothesis) (sym i.hypothesis_listed ∙ numbered_law laws hypothesis listed) in
-      let to : i.goal ≡ law_at laws n = sym (ap (λ o. unwrap_or o trivial) (sym (numbered_entry laws n) ∙ i.goal_listed)) in
+      let from = same_some i.hypothesis (law_at laws hypothesis) (sym i.hypothesis_listed ∙ listed_law laws hypothesis listed) in
+      let to : i.goal ≡ law_at laws n = sym (ap (λ o. unwrap_or o trivial) (i.goal_listed)) in
       subst (λ (p : Equation). Derives p (law_at laws n)) from (subst (Derives i.hypothesis) to i.derived)
 
   all_derived : AllDerived (law_at laws hypothesis) (map (law_at laws) cited)
@@ -54,16 +43,16 @@ pub right_fact : (laws : List Equation) (body : FileBody) (cited : List ℕ) →
 right_fact laws (proof p) cited listed valid right = record {
   hypothesis = law_at laws p.hypothesis;
   goal = law_at laws p.goal;
-  hypothesis_listed = numbered_law laws p.hypothesis listed.hypothesis_listed;
-  goal_listed = numbered_law laws p.goal listed.goal_listed;
+  hypothesis_listed = listed_law laws p.hypothesis listed.hypothesis_listed;
+  goal_listed = listed_law laws p.goal listed.goal_listed;
   derived = proved (law_at laws p.hypothesis) (map (law_at laws) cited) (all_derived laws p.hypothesis cited listed.hypothesis_listed right) (law_at laws p.goal) p.lemmas valid;
 }
 
 -- a listed number is one of the list's laws
-listed_number : (laws : List Equation) (n : ℕ) → IsSome (entry_at laws n) → IsLaw (length laws) n
+listed_number : (laws : List Equation) (n : ℕ) → IsSome (law_numbered laws n) → IsLaw (length laws) n
 listed_number laws zero h = absurd (true≢false (sym h ∙ ap is_some (entry_zero laws 0 refl)))
 listed_number laws (suc k) h =
-    let there : slice_get laws k ≡ Some (law_at laws (suc k)) = numbered_law laws (suc k) h in
+    let there : slice_get laws k ≡ Some (law_at laws (suc k)) = listed_law laws (suc k) h in
     let within = slice_get_within laws k (law_at laws (suc k)) there in
     record { from_one = omega arith; to_last = omega arith }
 

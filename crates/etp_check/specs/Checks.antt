@@ -4,8 +4,7 @@ use Rattle.etp_theory.specs.Trees.{Equation}
 use Rattle.etp_theory.specs.Derivations.{Derives}
 use Rattle.etp_theory.specs.Proofs.{AllDerived, IsValidProof}
 use Rattle.etp_theory.specs.Reach.{Fact, implies, refutes}
-use Rattle.etp_laws.specs.LawLists.{entry_at}
-use Rattle.etp_closure.specs.Closures.{IsLaw}
+use Rattle.etp_theory.specs.Numbered.{IsLaw, law_numbered}
 use Rattle.etp_replay.specs.Validity.{law_at}
 use Rattle.etp_items.specs.Bodies.{FileBody, ProofBody, proof}
 
@@ -15,8 +14,8 @@ fact_said (proof p) = implies p.hypothesis p.goal
 
 -- the laws that a body names are listed
 pub record HasListedLaws (laws : List Equation) (p : ProofBody) : Type 0 where
-  pub hypothesis_listed : IsSome (entry_at laws p.hypothesis)
-  pub goal_listed : IsSome (entry_at laws p.goal)
+  pub hypothesis_listed : IsSome (law_numbered laws p.hypothesis)
+  pub goal_listed : IsSome (law_numbered laws p.goal)
 
 abbrev pub IsListedBody : List Equation → FileBody → Type 0
 IsListedBody laws (proof p) = HasListedLaws laws p
@@ -41,7 +40,7 @@ hypothesis_of (proof p) = p.hypothesis
 -- one listed number for each cite
 pub record AreCitedNumbers (laws : List Equation) (body : FileBody) (cited : List ℕ) : Type 0 where
   pub as_many : length cited ≡ length (cites_of body)
-  pub cited_listed : All (λ n. IsSome (entry_at laws n)) cited
+  pub cited_listed : All (λ n. IsSome (law_numbered laws n)) cited
 
 -- with the laws of the cited numbers the body is valid: a proof derives its goal step by step
 abbrev pub IsValidBody : List Equation → FileBody → List ℕ → Type 0

@@ -1,7 +1,8 @@
 -- What callers see of a closure, and for which lists of facts it stands.
-use Rattle.std.specs.Prelude.{◌≡◌, ℕ, zero, suc, ◌≤◌, ◌↔◌, List, Contains, All, Option, Some, None, IsSome, IsTrue, Bool, false, nat_eq, slice_index, length}
+use Rattle.std.specs.Prelude.{◌≡◌, ℕ, zero, suc, ◌↔◌, List, Contains, All, Option, Some, None, IsSome, IsTrue, Bool, false, nat_eq, slice_index}
 use Rattle.etp_bits.specs.Bits.{Bits, bit}
-use Rattle.etp_theory.specs.Reach.{Fact, implies, refutes, dual_number, Reach, Covers}
+use Rattle.etp_theory.specs.Numbered.{dual_number}
+use Rattle.etp_theory.specs.Reach.{Fact, implies, refutes, Reach, Covers}
 
 -- the list of duals, for each law from 1 on one more than its slot, or 0 where it isn't kept,
 -- and the reached and the covered pairs of kept laws, by their slots
@@ -10,16 +11,6 @@ pub record Known : Type 0 where
   pub slots : List ℕ
   pub reached : Bits
   pub covered : Bits
-
--- one of the laws 1 to n
-pub record IsLaw (laws law : ℕ) : Type 0 where
-  pub from_one : 1 ≤ law
-  pub to_last : law ≤ laws
-
--- the list names one of its laws for each law, and that one's is the first again
-pub record IsOwnInverse (duals : List ℕ) : Type 0 where
-  pub within : (law : ℕ) → IsLaw (length duals) law → IsLaw (length duals) (dual_number duals law)
-  pub twice : (law : ℕ) → IsLaw (length duals) law → dual_number duals (dual_number duals law) ≡ law
 
 abbrev pub slot_from : ℕ → Option ℕ
 slot_from zero = None

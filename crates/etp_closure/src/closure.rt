@@ -1,8 +1,9 @@
 ghost use Rattle.std.specs.Prelude.{◌≡◌, ℕ, ◌+◌, ◌<◌, ◌↔◌, All, OnOk, OnErr, IfOk, IfSome, IsSome, Some, None, List, [], ◌∷◌, ◌++◌, length, not, ◌&&◌, ◌||◌};
 ghost use Rattle.std.specs.List.{list_any};
-ghost use Rattle.etp_theory.specs.Reach.{Fact as FactOf, implies, refutes, dual_number};
+ghost use Rattle.etp_theory.specs.Reach.{Fact as FactOf, implies, refutes};
 ghost use Rattle.etp_bits.specs.Counts.{count_below};
-ghost use Rattle.etp_closure.specs.Closures.{IsLaw, IsOwnInverse, IsKept, slot_of, is_reached, is_covered, SameAnswers, StandsFor, IsReserved, KeepsSlots};
+ghost use Rattle.etp_theory.specs.Numbered.{IsLaw, IsOwnInverse, dual_number};
+ghost use Rattle.etp_closure.specs.Closures.{IsKept, slot_of, is_reached, is_covered, SameAnswers, StandsFor, IsReserved, KeepsSlots};
 ghost use Rattle.etp_closure.specs.Answers.{answer_of, Says};
 ghost use Rattle.etp_closure.specs.Tables.{Links, image_of};
 

@@ -12,10 +12,10 @@ use Rattle.std.specs.declared.cmp.Ordering.{Ordering}
 use Rattle.std.specs.declared.cmp.Ordering.TheVariants.{Less, Equal}
 use Rattle.etp_theory.specs.Trees.{Equation, law_ops, law_dual, dual}
 use Rattle.etp_theory.specs.Orders.{law_cmp}
-use Rattle.etp_theory.specs.Reach.{dual_number}
 use Rattle.etp_theory.specs.Sameness.{Same}
 use Rattle.etp_laws.specs.Listing.{Listed, IsTheList, trivial}
-use Rattle.etp_laws.specs.LawLists.{LawList, entry_at, IsNumberOf, HasNumber, IsDualOf, AreDuals, IsOwnInverse}
+use Rattle.etp_theory.specs.Numbered.{IsLaw, IsOwnInverse, law_numbered, dual_number}
+use Rattle.etp_laws.specs.LawLists.{LawList, IsNumberOf, HasNumber, IsDualOf, AreDuals}
 use Rattle.etp_laws.specs.Enumeration.{laws_upto}
 use Rattle.etp_laws.specs.Places.{number_of, dual_numbers}
 use Rattle.etp_term.proofs.Shapes.{law_total}
@@ -57,7 +57,7 @@ record Stands (xs : List Equation) (n : ℕ) (e : Equation) : Type 0 where
 some_is : (n : ℕ) → (n ≡ 0 → ⊥) → 0 < n
 some_is n h = grind arith
 
-stands : (xs : List Equation) (n : ℕ) (e : Equation) → entry_at xs n ≡ Some e → Stands xs n e
+stands : (xs : List Equation) (n : ℕ) (e : Equation) → law_numbered xs n ≡ Some e → Stands xs n e
 stands xs n e h =
     let some : 0 < n = some_is n (λ z. no_entry (sym h ∙ entry_zero xs n z)) in
     let at : slice_get xs (n - 1) ≡ Some e = sym (entry_after xs n some) ∙ h in
@@ -68,7 +68,7 @@ stands xs n e h =
     no_entry z = cc
 
 -- an entry has one number
-one_number : (k : ℕ) (xs : List Equation) (n m : ℕ) (e : Equation) → IsTheList k xs → entry_at xs n ≡ Some e → entry_at xs m ≡ Some e → n ≡ m
+one_number : (k : ℕ) (xs : List Equation) (n m : ℕ) (e : Equation) → IsTheList k xs → law_numbered xs n ≡ Some e → law_numbered xs m ≡ Some e → n ≡ m
 one_number k xs n m e l a b =
     let x = stands xs n e a in
     let y = stands xs m e b in
@@ -102,7 +102,7 @@ module _ (k : ℕ) (small : k ≤ 5) (xs : List Equation) (is : xs ≡ laws_upto
   dual_is n some within =
       let lt : n - 1 < length xs = omega arith in
       let e : Equation = get_or xs (n - 1) trivial in
-      let at : entry_at xs n ≡ Some e = entry_after xs n some ∙ slice_get-get_or xs (n - 1) trivial lt in
+      let at : law_numbered xs n ≡ Some e = entry_after xs n some ∙ slice_get-get_or xs (n - 1) trivial lt in
       let listed = Listed-entry k xs n e the_list at in
       let few = small_entry k xs n e the_list at in
       let number : number_of (law_dual e) ≡ dual_number ds n = sym (ap (λ ys. slice_index ys (n - 1)) duals ∙ get_or-map (λ e. number_of (law_dual e)) xs (n - 1) trivial 0 lt) in
@@ -115,14 +115,18 @@ module _ (k : ℕ) (small : k ≤ 5) (xs : List Equation) (is : xs ≡ laws_upto
   pub are_duals : AreDuals xs ds
   are_duals = record { long = long; each = dual_is }
 
-  pub own_inverse : IsOwnInverse (length xs) ds
+  -- the dual of a law stands in the list
+  dual_stands : (n : ℕ) (l : IsLaw (length ds) n) → Stands xs (dual_number ds n) (dual_is n (omega (arith, l.from_one)) (omega (arith, l.to_last, long))).number.entry
+  dual_stands n l =
+      let a = dual_is n (omega (arith, l.from_one)) (omega (arith, l.to_last, long)) in
+      stands xs (dual_number ds n) a.number.entry a.number.stands
+
+  pub own_inverse : IsOwnInverse ds
   own_inverse = record {
-    some = λ n s w. (stands xs (dual_number ds n) (dual_is n s w).number.entry (dual_is n s w).number.stands).some;
-    within = λ n s w. (stands xs (dual_number ds n) (dual_is n s w).number.entry (dual_is n s w).number.stands).within;
-    back = λ n s w.
-        let a = dual_is n s w in
-        let st = stands xs (dual_number ds n) a.number.entry a.number.stands in
-        let b = dual_is (dual_number ds n) st.some st.within in
+    within = λ n l. record { from_one = omega (arith, (dual_stands n l).some); to_last = omega (arith, (dual_stands n l).within, long) };
+    twice = λ n l.
+        let a = dual_is n (omega (arith, l.from_one)) (omega (arith, l.to_last, long)) in
+        let b = dual_is (dual_number ds n) (dual_stands n l).some (dual_stands n l).within in
         back n (dual_number ds n) (dual_number ds (dual_number ds n)) a b;
   }
     where
@@ -140,21 +144,21 @@ module _ (l : LawList) (k : ℕ) (es : List Equation) (ds : List ℕ) (view : (l
   pub duals_of : AreDuals l.equations l.duals
   duals_of = subst (λ (m : LawList). AreDuals m.equations m.duals) view (are_duals k small es (the_laws k es list) ds (the_duals es ds numbers))
 
-  pub inverse_of : IsOwnInverse (length l.equations) l.duals
-  inverse_of = subst (λ (m : LawList). IsOwnInverse (length m.equations) m.duals) view (own_inverse k small es (the_laws k es list) ds (the_duals es ds numbers))
+  pub inverse_of : IsOwnInverse l.duals
+  inverse_of = subst (λ (m : LawList). IsOwnInverse m.duals) view (own_inverse k small es (the_laws k es list) ds (the_duals es ds numbers))
 
 -- the answer of `dual`
-pub dual_answer : (es : List Equation) (ds : List ℕ) (n : ℕ) (o : Option ℕ) → AreDuals es ds → 0 < n → o ≡ slice_get ds (n - 1) → MatchOption o (entry_at es n ≡ None) (λ m. IsDualOf es n m)
+pub dual_answer : (es : List Equation) (ds : List ℕ) (n : ℕ) (o : Option ℕ) → AreDuals es ds → 0 < n → o ≡ slice_get ds (n - 1) → MatchOption o (law_numbered es n ≡ None) (λ m. IsDualOf es n m)
 dual_answer es ds n o are some e = by_cases (slice_get_cases ds (n - 1)).1
   where
-    by_cases : (((x : ℕ) × (n - 1 < length ds) × (slice_get ds (n - 1) ≡ Some x) × (get_or ds (n - 1) x ≡ x)) ⊎ ((length ds ≤ n - 1) × (slice_get ds (n - 1) ≡ None))) → MatchOption o (entry_at es n ≡ None) (λ m. IsDualOf es n m)
+    by_cases : (((x : ℕ) × (n - 1 < length ds) × (slice_get ds (n - 1) ≡ Some x) × (get_or ds (n - 1) x ≡ x)) ⊎ ((length ds ≤ n - 1) × (slice_get ds (n - 1) ≡ None))) → MatchOption o (law_numbered es n ≡ None) (λ m. IsDualOf es n m)
     by_cases (inl (x, inside, is, at)) =
         let long = are.long in
         let here : dual_number ds n ≡ x = get_or_from_slice_get ds (n - 1) x 0 is in
-        subst (λ (q : Option ℕ). MatchOption q (entry_at es n ≡ None) (λ m. IsDualOf es n m)) (sym (e ∙ is)) (subst (IsDualOf es n) here (are.each n some (omega arith)))
+        subst (λ (q : Option ℕ). MatchOption q (law_numbered es n ≡ None) (λ m. IsDualOf es n m)) (sym (e ∙ is)) (subst (IsDualOf es n) here (are.each n some (omega arith)))
     by_cases (inr (past, is)) =
         let long = are.long in
-        subst (λ (q : Option ℕ). MatchOption q (entry_at es n ≡ None) (λ m. IsDualOf es n m)) (sym (e ∙ is)) (entry_after es n some ∙ slice_get_past es (n - 1) (omega arith))
+        subst (λ (q : Option ℕ). MatchOption q (law_numbered es n ≡ None) (λ m. IsDualOf es n m)) (sym (e ∙ is)) (entry_after es n some ∙ slice_get_past es (n - 1) (omega arith))
 
 -- the number of a law among those that `Laws` keeps
 pub number_answer : (l : LawList) (k : ℕ) (es : List Equation) (ds : List ℕ) (p : Equation) (n : ℕ) → (let m : LawList = record { order = k; equations = es; duals = ds } in m ≡ l) → k ≤ 5 → ∥ es ≡ laws_upto k ∥₁ → HasNumber p → law_ops p ≤ k → n ≡ number_of p → IsNumberOf l.equations p n

@@ -1,14 +1,15 @@
 -- The list that `Laws` holds, and its entries by their numbers.
-use Rattle.std.proofs.Common.{◌≡◌, ℕ, ◌-◌, ◌<◌, ◌≤◌, ◌⊎◌, inl, inr, List, ◌^◌, length, get_or, Contains, Some, None, ◌==◌, sym, ◌∙◌, ap, subst, arith}
+use Rattle.std.proofs.Common.{◌≡◌, ℕ, zero, suc, refl, ◌-◌, ◌<◌, ◌≤◌, ◌⊎◌, inl, inr, List, ◌^◌, length, get_or, Contains, Some, None, sym, ◌∙◌, ap, subst, arith}
 use Rattle.std.proofs.Math.Logic.{∥∥₁_elim}
-use Rattle.std.proofs.lemmas.Bool.{cases_lt, cond-true, cond-false, eq-eqb, ne_eqb}
+use Rattle.std.proofs.lemmas.Bool.{cases_lt}
 use Rattle.std.proofs.lemmas.List.Elements.{All-contains}
 use Rattle.std.proofs.lemmas.Option.{slice_get_cases}
 use Rattle.std.specs.List.{slice_get}
 use Rattle.std.specs.Coded.{Coded-set, coded_list, coded_ℕ}
 use Rattle.etp_theory.specs.Trees.{Equation, law_ops}
 use Rattle.etp_laws.specs.Listing.{Listed, IsTheList}
-use Rattle.etp_laws.specs.LawLists.{LawList, entry_at}
+use Rattle.etp_theory.specs.Numbered.{law_numbered}
+use Rattle.etp_laws.specs.LawLists.{LawList}
 use Rattle.etp_laws.specs.Coding.{coded_equation}
 use Rattle.etp_laws.specs.Enumeration.{laws_upto}
 use Rattle.etp_laws.specs.Places.{dual_numbers}
@@ -38,16 +39,20 @@ short_enough k es h a b = by_cases (four_or_five a b)
     by_cases (inl e) = let l = four_long k es h e in omega arith
     by_cases (inr e) = let l = five_long k es h e in omega arith
 
-pub entry_after : (xs : List Equation) (n : ℕ) → 0 < n → entry_at xs n ≡ slice_get xs (n - 1)
-entry_after xs n h = cond-false (n == 0) None (slice_get xs (n - 1)) (ne_eqb n 0 (λ e. omega arith))
+pub entry_after : (xs : List Equation) (n : ℕ) → 0 < n → law_numbered xs n ≡ slice_get xs (n - 1)
+entry_after xs zero h = absurd (omega (arith, h))
+entry_after xs (suc k) h =
+    let same : k ≡ suc k - 1 = omega arith in
+    ap (slice_get xs) same
 
-pub entry_zero : (xs : List Equation) (n : ℕ) → n ≡ 0 → entry_at xs n ≡ None
-entry_zero xs n h = cond-true (n == 0) None (slice_get xs (n - 1)) (eq-eqb n 0 h)
+pub entry_zero : (xs : List Equation) (n : ℕ) → n ≡ 0 → law_numbered xs n ≡ None
+entry_zero xs zero h = refl
+entry_zero xs (suc k) h = absurd (omega (arith, h))
 
 some_none : {X : Type 0} (x : X) → Some x ≡ None → ⊥
 some_none x e = cc
 
-pub Contains-entry : (xs : List Equation) (n : ℕ) (e : Equation) → entry_at xs n ≡ Some e → Contains xs e
+pub Contains-entry : (xs : List Equation) (n : ℕ) (e : Equation) → law_numbered xs n ≡ Some e → Contains xs e
 Contains-entry xs n e h = by_cases (cases_lt 0 n)
   where
     by_place : 0 < n → (((x : Equation) × (n - 1 < length xs) × (slice_get xs (n - 1) ≡ Some x) × (get_or xs (n - 1) x ≡ x)) ⊎ ((length xs ≤ n - 1) × (slice_get xs (n - 1) ≡ None))) → Contains xs e
@@ -61,10 +66,10 @@ Contains-entry xs n e h = by_cases (cases_lt 0 n)
     by_cases (inl l) = by_place l (slice_get_cases xs (n - 1)).1
     by_cases (inr l) = absurd (some_none e (sym h ∙ entry_zero xs n (omega arith)))
 
-pub Listed-entry : (k : ℕ) (xs : List Equation) (n : ℕ) (e : Equation) → IsTheList k xs → entry_at xs n ≡ Some e → Listed e
+pub Listed-entry : (k : ℕ) (xs : List Equation) (n : ℕ) (e : Equation) → IsTheList k xs → law_numbered xs n ≡ Some e → Listed e
 Listed-entry k xs n e l h = All-contains Listed xs e l.sound (Contains-entry xs n e h)
 
-pub small_entry : (k : ℕ) (xs : List Equation) (n : ℕ) (e : Equation) → IsTheList k xs → entry_at xs n ≡ Some e → law_ops e ≤ k
+pub small_entry : (k : ℕ) (xs : List Equation) (n : ℕ) (e : Equation) → IsTheList k xs → law_numbered xs n ≡ Some e → law_ops e ≤ k
 small_entry k xs n e l h = All-contains (λ p. law_ops p ≤ k) xs e l.small (Contains-entry xs n e h)
 
 -- what stands behind the truncation of the numbers of the duals

@@ -4,10 +4,10 @@ ghost use Rattle.etp_theory.specs.Trees.{Equation, bound, law_ops};
 ghost use Rattle.etp_term.specs.Terms.{tree_of};
 ghost use Rattle.etp_term.specs.Laws.{equation_of};
 ghost use Rattle.etp_laws.specs.Listing.{Listed, IsTheList};
-ghost use Rattle.etp_laws.specs.LawLists.{entry_at, HasVariables, HasNumber, IsTrivial, IsDualOf, AreDuals, IsOwnInverse};
+ghost use Rattle.etp_theory.specs.Numbered.{IsOwnInverse, law_numbered, dual_number};
+ghost use Rattle.etp_laws.specs.LawLists.{HasVariables, HasNumber, IsTrivial, IsDualOf, AreDuals};
 ghost use Rattle.etp_laws.specs.Numbers.{IsNumbered};
 ghost use Rattle.etp_laws.specs.Places;
-ghost use Rattle.etp_theory.specs.Reach.{dual_number};
 
 use crate::listing::listed_upto;
 use crate::places::number_of;
@@ -93,7 +93,7 @@ impl Laws {
 
     /// Law n; None exactly where n is 0 or above the count.
     pub fn law(&self, n: u32) -> Option<&Law>
-        ensures entry { option_map equation_of (option_copied result) ≡ entry_at self.now.equations n }
+        ensures entry { option_map equation_of (option_copied result) ≡ law_numbered self.now.equations n }
         ensures list { IsTheList self.now.order self.now.equations }
     {
         let laws = &self.laws;
@@ -106,7 +106,7 @@ impl Laws {
     /// How many variables law n has; they are 0 to that number less one. None exactly where n is 0
     /// or above the count.
     pub fn variables(&self, n: u32) -> Option<u8>
-        ensures exact { MatchOption result (entry_at self.now.equations n ≡ None) (λ m. (e : Equation) × (entry_at self.now.equations n ≡ Some e) × HasVariables e m) }
+        ensures exact { MatchOption result (law_numbered self.now.equations n ≡ None) (λ m. (e : Equation) × (law_numbered self.now.equations n ≡ Some e) × HasVariables e m) }
         ensures few { IfSome result (λ m. m ≤ self.now.order + 2) }
     {
         let _order = self.order();
@@ -132,7 +132,7 @@ impl Laws {
 
     /// The number of the dual of law n; None exactly where n is 0 or above the count.
     pub fn dual(&self, n: u32) -> Option<u32>
-        ensures exact { MatchOption result (entry_at self.now.equations n ≡ None) (λ m. IsDualOf self.now.equations n m) }
+        ensures exact { MatchOption result (law_numbered self.now.equations n ≡ None) (λ m. IsDualOf self.now.equations n m) }
         ensures list { IfSome result (λ m. m ≡ dual_number self.now.duals n) }
     {
         let duals = &self.duals;
@@ -149,7 +149,7 @@ impl Laws {
     pub fn duals(&self) -> &[u32]
         ensures value { result.now ≡ self.now.duals }
         ensures exact { AreDuals self.now.equations self.now.duals }
-        ensures inverse { IsOwnInverse (length self.now.equations) self.now.duals }
+        ensures inverse { IsOwnInverse self.now.duals }
     {
         self.duals.as_slice()
     }

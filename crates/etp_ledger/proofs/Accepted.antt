@@ -5,8 +5,8 @@ use Rattle.etp_theory.specs.Reach.{Fact, implies}
 use Rattle.etp_theory.specs.RightFacts.{Implies, IsRightFact}
 use Rattle.etp_items.specs.Bodies.{FileBody}
 use Rattle.etp_check.specs.Checks.{fact_said, hypothesis_of, cites_of}
-use Rattle.etp_laws.specs.LawLists.{entry_at}
-use Rattle.etp_check.proofs.Rights.{numbered_entry, right_fact}
+use Rattle.etp_theory.specs.Numbered.{law_numbered}
+use Rattle.etp_check.proofs.Rights.{right_fact}
 use Rattle.etp_ledger.specs.Files.{File, facts_of, is_named, body_named, StandsAsProof, ProvesFrom, goal_said, goal_in, cited_goals}
 use Rattle.etp_ledger.specs.Accepting.{IsAccepted, AreAcceptedAfter, AreAccepted}
 use Rattle.etp_ledger.proofs.Naming.{or_else, named_more}
@@ -80,9 +80,9 @@ module _ (laws : List Equation) where
       subst AreRight (append_assoc before (file ∷ []) files) (right_after (before ++ file ∷ []) files (right_more before file right (accepted_right before file.name file.body right all.0)) all.1)
 
   -- the goals of files that are cited are listed
-  pub goals_listed : (files : List File) (body : FileBody) → AreAccepted laws files → All (StandsAsProof files (hypothesis_of body)) (cites_of body) → All (λ n. IsSome (entry_at laws n)) (cited_goals files body)
+  pub goals_listed : (files : List File) (body : FileBody) → AreAccepted laws files → All (StandsAsProof files (hypothesis_of body)) (cites_of body) → All (λ n. IsSome (law_numbered laws n)) (cited_goals files body)
   goals_listed files body all stand =
-      all_from (λ n. IsSome (entry_at laws n)) (cited_goals files body) (λ k n h.
+      all_from (λ n. IsSome (law_numbered laws n)) (cited_goals files body) (λ k n h.
       let from = map_origin (λ cite. goal_in (body_named cite files)) (cites_of body) k n h in
       let right = cited_right files (hypothesis_of body) from.0 (right_after [] files (λ name body e. absurd (cc)) all) (all_at (StandsAsProof files (hypothesis_of body)) (cites_of body) k from.0 stand from.1) in
-      subst (λ m. IsSome (entry_at laws m)) from.2 (ap is_some (sym (numbered_entry laws (goal_in (body_named from.0 files))) ∙ right.goal_listed)))
+      subst (λ m. IsSome (law_numbered laws m)) from.2 (ap is_some right.goal_listed))

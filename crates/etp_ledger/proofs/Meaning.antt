@@ -3,8 +3,9 @@ use Rattle.std.proofs.Common.{◌≡◌, ℕ, zero, suc, ◌<◌, ◌≤◌, ◌
 use Rattle.std.proofs.lemmas.Option.{slice_get-get_or, slice_get_within}
 use Rattle.etp_theory.specs.Trees.{Equation, law_dual}
 use Rattle.etp_theory.specs.Sameness.{Same}
-use Rattle.etp_theory.specs.Reach.{Fact, dual_number}
-use Rattle.etp_theory.specs.RightFacts.{law_numbered, AreRightFacts}
+use Rattle.etp_theory.specs.Reach.{Fact}
+use Rattle.etp_theory.specs.Numbered.{IsLaw, law_numbered, dual_number}
+use Rattle.etp_theory.specs.RightFacts.{AreRightFacts}
 use Rattle.etp_theory.proofs.Reaching.{reach_derives, covered_apart, never_both}
 use Rattle.etp_laws.specs.Listing.{trivial, IsTheList}
 use Rattle.etp_laws.specs.LawLists.{AreDuals}
@@ -12,13 +13,13 @@ use Rattle.etp_laws.specs.Enumeration.{laws_upto}
 use Rattle.etp_laws.proofs.TheList.{laws_upto_is}
 use Rattle.etp_laws.proofs.Blocks.{laws_upto_4, laws_upto_5}
 use Rattle.etp_laws.proofs.Unique.{IsTheList-is, IsTheList-unique}
-use Rattle.etp_closure.specs.Closures.{Known, IsLaw, StandsFor, HasKeptLaws, is_reached, is_covered}
+use Rattle.etp_closure.specs.Closures.{Known, StandsFor, HasKeptLaws, is_reached, is_covered}
 use Rattle.etp_closure.specs.Answers.{Says}
 use Rattle.etp_closure.specs.declared.facts.Answer.{Answer}
 use Rattle.etp_closure.specs.declared.facts.Answer.TheVariants.{Implied, Refuted, Unsettled}
 use Rattle.etp_items.specs.Bodies.{FileBody}
 use Rattle.etp_check.specs.Checks.{fact_said, hypothesis_of, cites_of, IsListedBody, AreCitedNumbers, HasLaws}
-use Rattle.etp_check.proofs.Rights.{numbered_entry, listed_fact}
+use Rattle.etp_check.proofs.Rights.{listed_fact}
 use Rattle.etp_ledger.specs.Files.{File, facts_of, is_named, body_named, goal_in, cited_goals, StandsAsProof}
 use Rattle.etp_ledger.specs.Accepting.{IsAccepted, AreAccepted}
 use Rattle.etp_ledger.specs.Withdrawing.{Cites, without}
@@ -41,8 +42,8 @@ module _ (laws : List Equation) (duals : List ℕ) (are : AreDuals laws duals) w
   dual_numbered (suc k) p h =
       let within : suc k ≤ length laws = omega (arith, slice_get_within laws k p h) in
       let d = are.each (suc k) (omega arith) within in
-      let same = same_law d.law p (sym d.stands ∙ sym (numbered_entry laws (suc k)) ∙ h) in
-      (d.number.entry, numbered_entry laws (dual_number duals (suc k)) ∙ d.number.stands, subst (λ (e : Equation). Same (law_dual e) d.number.entry) same d.number.same)
+      let same = same_law d.law p (sym d.stands ∙ h) in
+      (d.number.entry, d.number.stands, subst (λ (e : Equation). Same (law_dual e) d.number.entry) same d.number.same)
 
   pub listed : (e : ℕ) → IsLaw (length duals) e → (p : Equation) × (law_numbered laws e ≡ Some p)
   listed zero is = absurd (omega (arith, is.from_one))

@@ -3,7 +3,7 @@ use Rattle.std.specs.Prelude.{◌≡◌, ◌≢◌, ◌⊎◌, ◌+◌, ℕ, Lis
 use Rattle.etp_theory.specs.Reach.{implies}
 use Rattle.etp_laws.specs.LawLists.{LawList}
 use Rattle.etp_items.specs.Bodies.{FileBody}
-use Rattle.etp_closure.specs.Closures.{IsLaw}
+use Rattle.etp_theory.specs.Numbered.{IsLaw}
 use Rattle.etp_check.specs.Checks.{fact_said, hypothesis_of, cites_of}
 use Rattle.etp_check.specs.Refusals.{IsBodyOffence}
 use Rattle.etp_check.specs.declared.refusal.CheckRefusal.{CheckRefusal}

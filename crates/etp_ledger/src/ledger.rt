@@ -2,7 +2,8 @@ ghost use Rattle.std.specs.Prelude.{◌≡◌, ◌<◌, ◌≤◌, ◌++◌, ◌
 ghost use Rattle.etp_theory.specs.Trees.{Equation};
 ghost use Rattle.etp_laws.specs.Listing.{IsTheList};
 ghost use Rattle.etp_laws.specs.LawLists.{AreDuals};
-ghost use Rattle.etp_closure.specs.Closures.{IsLaw, StandsFor, is_reached, is_covered};
+ghost use Rattle.etp_theory.specs.Numbered.{IsLaw};
+ghost use Rattle.etp_closure.specs.Closures.{StandsFor, is_reached, is_covered};
 ghost use Rattle.etp_closure.specs.Answers.{Says};
 ghost use Rattle.etp_closure.specs.Facts.{fact_of};
 ghost use Rattle.etp_items.specs.Bodies.{body_of};

@@ -4,7 +4,8 @@ use Rattle.etp_theory.specs.Trees.{Equation}
 use Rattle.etp_theory.specs.Sameness.{Same}
 use Rattle.etp_theory.specs.Proofs.{Lemma, conclusion, AreRightLemmas, IsValidProof}
 use Rattle.etp_laws.specs.Listing.{trivial}
-use Rattle.etp_laws.specs.LawLists.{LawList, entry_at}
+use Rattle.etp_theory.specs.Numbered.{law_numbered}
+use Rattle.etp_laws.specs.LawLists.{LawList}
 use Rattle.etp_laws.specs.Numbers.{IsNumbered}
 use Rattle.etp_replay.specs.Lemmas.{lemma_of}
 use Rattle.etp_replay.specs.Replay.{IsFirstWrong}
@@ -14,7 +15,7 @@ use Rattle.etp_replay.specs.declared.refusal.ReplayRefusal.TheVariants.{GoalDiff
 
 -- law n; for a number that isn't listed, `x = x`
 abbrev pub law_at : List Equation → ℕ → Equation
-law_at laws n = unwrap_or (entry_at laws n) trivial
+law_at laws n = unwrap_or (law_numbered laws n) trivial
 
 -- the proof of the goal from the hypothesis is valid, with the laws of the cited numbers
 abbrev pub IsValid : List Equation → Proof → List ℕ → Type 0

@@ -4,7 +4,7 @@ ghost use Rattle.etp_theory.specs.Derivations.{Derives};
 ghost use Rattle.etp_theory.specs.Proofs.{conclusion, AllDerived};
 ghost use Rattle.etp_term.specs.Laws.{equation_of};
 ghost use Rattle.etp_laws.specs.Listing.{IsTheList};
-ghost use Rattle.etp_laws.specs.LawLists.{entry_at};
+ghost use Rattle.etp_theory.specs.Numbered.{law_numbered};
 ghost use Rattle.etp_replay.specs.Lemmas.{lemma_of};
 ghost use Rattle.etp_replay.specs.Lines.{cites_of};
 ghost use Rattle.etp_replay.specs.Validity.{law_at, IsValid, IsRefused, IsOtherLaw};
@@ -25,11 +25,11 @@ pub fn replay<'p>(
     proof: &'p Proof,
     cited: &[u32],
 ) -> Result<(), ReplayRefusal>
-    requires hypothesis { IsSome (entry_at laws.now.equations proof.now.hypothesis) }
-    requires goal { IsSome (entry_at laws.now.equations proof.now.goal) }
+    requires hypothesis { IsSome (law_numbered laws.now.equations proof.now.hypothesis) }
+    requires goal { IsSome (law_numbered laws.now.equations proof.now.goal) }
     requires lemmas { 0 < length proof.now.lemmas }
     requires cites { length cited.now ≡ length proof.now.cites }
-    requires cited { All (λ n. IsSome (entry_at laws.now.equations n)) cited.now }
+    requires cited { All (λ n. IsSome (law_numbered laws.now.equations n)) cited.now }
     ensures valid { OnOk result (IsValid laws.now.equations proof.now cited.now) }
     ensures derived { OnOk result (AllDerived (law_at laws.now.equations proof.now.hypothesis) (map (law_at laws.now.equations) cited.now) → Derives (law_at laws.now.equations proof.now.hypothesis) (law_at laws.now.equations proof.now.goal)) }
     ensures err { IfErr result (λ r. IsRefused laws.now proof.now cited.now r) }
@@ -46,7 +46,7 @@ pub fn replay<'p>(
 
 /// The law of a listed number.
 fn listed(laws: &Laws, number: u32) -> &Law
-    requires { IsSome (entry_at laws.now.equations number) }
+    requires { IsSome (law_numbered laws.now.equations number) }
     ensures law { equation_of result.now ≡ law_at laws.now.equations number }
     ensures list { IsTheList laws.now.order laws.now.equations }
 {
@@ -58,7 +58,7 @@ fn listed(laws: &Laws, number: u32) -> &Law
 
 /// The laws of listed numbers.
 fn cited_laws<'p>(alloc: Global, laws: &'p Laws, cited: &[u32]) -> Result<Vec<&'p Law>, NoMemory>
-    requires { All (λ n. IsSome (entry_at laws.now.equations n)) cited.now }
+    requires { All (λ n. IsSome (law_numbered laws.now.equations n)) cited.now }
     ensures { IfOk result (λ cites. cites_of cites.items ≡ map (law_at laws.now.equations) cited.now) }
 {
     let mut cites = Vec::with_capacity(alloc, cited.len())?;
@@ -70,7 +70,7 @@ fn cited_laws<'p>(alloc: Global, laws: &'p Laws, cited: &[u32]) -> Result<Vec<&'
 
 /// Whether the lemma concludes the law of this number.
 fn compare_goal(alloc: Global, laws: &Laws, goal: u32, last: &Lemma) -> Result<(), ReplayRefusal>
-    requires listed { IsSome (entry_at laws.now.equations goal) }
+    requires listed { IsSome (law_numbered laws.now.equations goal) }
     requires list { IsTheList laws.now.order laws.now.equations }
     ensures ok { OnOk result (Same (conclusion (lemma_of last.now)) (law_at laws.now.equations goal)) }
     ensures err { IfErr result (λ r. (r ≡ ReplayRefusal.NoMemory) ⊎ IsOtherLaw laws.now (conclusion (lemma_of last.now)) (law_at laws.now.equations goal) r) }

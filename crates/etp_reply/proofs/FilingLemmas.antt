@@ -5,13 +5,14 @@ use Rattle.std.specs.Prelude.{IsSome, position, slice_get, if◌then◌else◌}
 use Rattle.std.specs.List.{position_or_len}
 use Rattle.std.proofs.lemmas.List.Elements.{All-head, All-tail}
 use Rattle.std.proofs.Common.{get_or}
-use Rattle.std.proofs.Common.{◌-◌, ◌==◌}
-use Rattle.std.proofs.lemmas.Bool.{lt-ltb, le-ltb, cond-false, ne_eqb}
+use Rattle.std.proofs.Common.{◌-◌}
+use Rattle.std.proofs.lemmas.Bool.{lt-ltb, le-ltb}
 use Rattle.std.proofs.lemmas.Option.{slice_get-get_or}
 use Rattle.etp_laws.specs.Listing.{trivial}
 use Rattle.etp_theory.specs.Trees.{Equation}
 use Rattle.etp_theory.specs.Proofs.{Lemma}
-use Rattle.etp_laws.specs.LawLists.{entry_at}
+use Rattle.etp_laws.proofs.Entries.{entry_after}
+use Rattle.etp_theory.specs.Numbered.{law_numbered}
 use Rattle.etp_items.specs.Words.{words_of}
 use Rattle.etp_items.specs.BodyLines.{Version, plain, citing, Line, heading, cite, are_blank}
 use Rattle.etp_items.specs.Bodies.{FileBody, proof}
@@ -162,9 +163,9 @@ body-content lines (proof p) h = by p.lemmas refl
         absurd (no_heading h.0 h.0 p.hypothesis p.goal lines p.cites (rw all at h.1))
     by (l ∷ ls) e = rw e (omega arith)
 
-entry-there : (laws : List Equation) (n : ℕ) → 1 ≤ n → n ≤ length laws → IsSome (entry_at laws n)
+entry-there : (laws : List Equation) (n : ℕ) → 1 ≤ n → n ≤ length laws → IsSome (law_numbered laws n)
 entry-there laws n h k =
-    let listed : entry_at laws n ≡ slice_get laws (n - 1) = cond-false (n == 0) None (slice_get laws (n - 1)) (ne_eqb n 0 (λ e. omega (arith, e, h))) in
+    let listed : law_numbered laws n ≡ slice_get laws (n - 1) = entry_after laws n (omega (arith, h)) in
     let there : slice_get laws (n - 1) ≡ Some (get_or laws (n - 1) trivial) = slice_get-get_or laws (n - 1) trivial (omega (arith, h, k)) in
     rw (listed, there) refl
 

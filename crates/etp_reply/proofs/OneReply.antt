@@ -2,9 +2,9 @@
 use Rattle.std.proofs.Common.{◌≡◌, ◌≢◌, ℕ, suc, ◌-◌, ◌<◌, ◌⊎◌, inl, inr, List, [], ◌∷◌, ◌++◌, length, slice_index, refl, sym, ◌∙◌, ap, subst, Option, None, Some, IsSome, Bool, true, false, arith}
 use Rattle.std.specs.Prelude.{codes, slice_get}
 use Rattle.etp_theory.specs.Trees.{Equation, law_dual}
-use Rattle.etp_theory.specs.Reach.{dual_number}
 use Rattle.etp_laws.specs.Listing.{IsTheList}
-use Rattle.etp_laws.specs.LawLists.{LawList, entry_at, IsNumberOf, IsTrivial, AreDuals, IsDualOf}
+use Rattle.etp_theory.specs.Numbered.{law_numbered, dual_number}
+use Rattle.etp_laws.specs.LawLists.{LawList, IsNumberOf, IsTrivial, AreDuals, IsDualOf}
 use Rattle.etp_laws.proofs.DualNumbers.{one_number_of}
 use Rattle.etp_laws.proofs.Trivial.{none_same}
 use Rattle.etp_laws.proofs.Entries.{Listed-entry}
@@ -38,8 +38,8 @@ use Rattle.etp_reply.proofs.OneAnswer.{ask_reply-only, counts_reply-only}
 no_number : (k : ℕ) (laws : List Equation) (p : Equation) (n : ℕ) → IsTheList k laws → IsTrivial p → IsNumberOf laws p n → ⊥
 no_number k laws p n l t m = none_same p t.0 t.1 m.entry (Listed-entry k laws n m.entry l m.stands) m.same
 
-reply_of_one : (laws : List Equation) (n m : ℕ) → n ≡ m → law_reply n (entry_at laws n) ≡ law_reply m (entry_at laws m)
-reply_of_one laws n m e = ap (λ i. law_reply i (entry_at laws i)) e
+reply_of_one : (laws : List Equation) (n m : ℕ) → n ≡ m → law_reply n (law_numbered laws n) ≡ law_reply m (law_numbered laws m)
+reply_of_one laws n m e = ap (λ i. law_reply i (law_numbered laws i)) e
 
 numbered_reply-only : (k : ℕ) (laws : List Equation) (p : Equation) → IsTheList k laws → (r s : Reply) → NumberedReply k laws p r → NumberedReply k laws p s → r ≡ s
 numbered_reply-only k laws p l r s (too_many h e) (too_many i f) = e ∙ sym f
@@ -204,7 +204,7 @@ Answers-only o l long r s g h a b = (a.0 ∙ sym b.0, a.1 ∙ sym b.1)
 Answers-only o l (order k) r s g h a b = (a.0 ∙ sym b.0, a.1 ∙ sym b.1)
 Answers-only o l (law n) r s g h a b = (a.0 ∙ sym b.0, a.1 ∙ sym b.1)
 Answers-only o l (number text) r s g h a b = (number_reply-only o.laws.order o.laws.equations l text r s a.0 b.0, a.1 ∙ sym b.1)
-Answers-only o l (dual n) r s g h a b = (dual_reply-only o.laws.order o.laws.equations l n (entry_at o.laws.equations n) r s a.0 b.0, a.1 ∙ sym b.1)
+Answers-only o l (dual n) r s g h a b = (dual_reply-only o.laws.order o.laws.equations l n (law_numbered o.laws.equations n) r s a.0 b.0, a.1 ∙ sym b.1)
 Answers-only o l (ask e f) r s g h a b = (ask_reply-only o e f r s a.0 b.0, a.1 ∙ sym b.1)
 Answers-only o l (file word) r s g h a b = absurd a
 Answers-only o l (load word) r s g h a b = absurd a

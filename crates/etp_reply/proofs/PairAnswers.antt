@@ -6,7 +6,8 @@ use Rattle.std.proofs.lemmas.Option.{slice_get_within, slice_get-get_or}
 use Rattle.etp_theory.specs.Trees.{Equation}
 use Rattle.etp_theory.specs.Reach.{Fact}
 use Rattle.etp_laws.specs.Listing.{IsTheList}
-use Rattle.etp_closure.specs.Closures.{Known, IsLaw, StandsFor}
+use Rattle.etp_theory.specs.Numbered.{IsLaw}
+use Rattle.etp_closure.specs.Closures.{Known, StandsFor}
 use Rattle.etp_closure.specs.Answers.{answer_of, Says}
 use Rattle.etp_closure.specs.declared.facts.Answer.{Answer}
 use Rattle.etp_closure.specs.declared.facts.Answer.TheVariants.{Implied, Refuted, Unsettled}

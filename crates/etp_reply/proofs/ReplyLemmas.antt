@@ -3,7 +3,8 @@ use Rattle.std.proofs.Common.{◌≡◌, ℕ, ◌+◌, ◌≤◌, min, List, ◌
 use Rattle.std.specs.Prelude.{codes, decimal}
 use Rattle.etp_theory.specs.Trees.{Tree, Equation, ops, leaves, law_ops}
 use Rattle.etp_theory.proofs.Orders.{leaves_ops}
-use Rattle.etp_laws.specs.LawLists.{LawList, entry_at}
+use Rattle.etp_theory.specs.Numbered.{law_numbered}
+use Rattle.etp_laws.specs.LawLists.{LawList}
 use Rattle.etp_laws.specs.Numbers.{IsNumbered}
 use Rattle.etp_laws.specs.declared.laws.Numbered.TheVariants.{Is, TooManyOps}
 use Rattle.etp_text.specs.Refusals.{side_limit}
@@ -35,9 +36,9 @@ gives-other n text flag P Q f g = record { reply = g.reply; is = f g.reply g.is;
 
 -- the number of a law, as the list of laws answers it
 pub numbered-is : (l : LawList) (p : Equation) (n line : ℕ) (text : List ℕ) (flag : Bool) → IsNumbered l p (Is n)
-    → (text ≡ reply_text line (law_reply n (entry_at l.equations n))) × (flag ≡ is_refusal (law_reply n (entry_at l.equations n)))
+    → (text ≡ reply_text line (law_reply n (law_numbered l.equations n))) × (flag ≡ is_refusal (law_reply n (law_numbered l.equations n)))
     → Gives line text flag (NumberedReply l.order l.equations p)
-numbered-is l p n line text flag h i = record { reply = law_reply n (entry_at l.equations n); is = numbered n h.0 h.2 refl; text_is = i.0; refused_is = i.1 }
+numbered-is l p n line text flag h i = record { reply = law_reply n (law_numbered l.equations n); is = numbered n h.0 h.2 refl; text_is = i.0; refused_is = i.1 }
 
 few_ops : (t : Tree) → leaves t ≤ side_limit → min (ops t) 65536 ≡ ops t
 few_ops t h = let e = leaves_ops t in omega (arith, e, h)

@@ -1,7 +1,7 @@
 -- The replies about the files that stand and about pairs of laws.
 use Rattle.std.specs.Prelude.{◌≡◌, ℕ, ◌+◌, List, [], ◌∷◌, ◌++◌, codes, decimal, length, slice_get, None, Some}
 use Rattle.etp_bits.specs.Counts.{count_below}
-use Rattle.etp_closure.specs.Closures.{IsLaw}
+use Rattle.etp_theory.specs.Numbered.{IsLaw}
 use Rattle.etp_closure.specs.Answers.{Says}
 use Rattle.etp_closure.specs.declared.facts.Answer.{Answer}
 use Rattle.etp_closure.specs.declared.facts.Answer.TheVariants.{Implied, Refuted, Unsettled}

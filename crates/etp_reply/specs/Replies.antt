@@ -2,7 +2,8 @@
 use Rattle.std.specs.Prelude.{◌≡◌, ◌≢◌, ℕ, ◌<◌, ◌≤◌, List, [], ◌∷◌, ◌++◌, codes, decimal, true, false, None, Some}
 use Rattle.std.specs.declared.option.Option.{Option}
 use Rattle.etp_theory.specs.Trees.{Equation, leaves, law_ops, law_dual}
-use Rattle.etp_laws.specs.LawLists.{entry_at, IsNumberOf, IsTrivial}
+use Rattle.etp_theory.specs.Numbered.{law_numbered}
+use Rattle.etp_laws.specs.LawLists.{IsNumberOf, IsTrivial}
 use Rattle.etp_text.specs.Written.{written_law}
 use Rattle.etp_text.specs.Grammar.{SpellsLaw}
 use Rattle.etp_text.specs.Refusals.{RefusesLaw, side_limit}
@@ -31,7 +32,7 @@ law_reply n (Some p) = answered (law_line n p)
 pub data NumberedReply (k : ℕ) (laws : List Equation) (p : Equation) (reply : Reply) : Type 0 where
   too_many : k < law_ops p → reply ≡ refused (codes "operations " ++ decimal (law_ops p)) → NumberedReply k laws p reply
   trivial : law_ops p ≤ k → IsTrivial p → reply ≡ refused (codes "trivial") → NumberedReply k laws p reply
-  numbered : (n : ℕ) → law_ops p ≤ k → IsNumberOf laws p n → reply ≡ law_reply n (entry_at laws n) → NumberedReply k laws p reply
+  numbered : (n : ℕ) → law_ops p ≤ k → IsNumberOf laws p n → reply ≡ law_reply n (law_numbered laws n) → NumberedReply k laws p reply
 
 -- the reply to a law's text
 pub data NumberReply (k : ℕ) (laws : List Equation) (text : List ℕ) (reply : Reply) : Type 0 where
@@ -41,16 +42,16 @@ pub data NumberReply (k : ℕ) (laws : List Equation) (text : List ℕ) (reply :
 -- the law that is the same as the dual of law n, or that there is no law n
 abbrev pub DualReply : List Equation → ℕ → Option Equation → Reply → Type 0
 DualReply laws n None reply = reply ≡ law_reply n None
-DualReply laws n (Some p) reply = (m : ℕ) × IsNumberOf laws (law_dual p) m × (reply ≡ law_reply m (entry_at laws m))
+DualReply laws n (Some p) reply = (m : ℕ) × IsNumberOf laws (law_dual p) m × (reply ≡ law_reply m (law_numbered laws m))
 
 -- a request has this reply, and these files stand after it
 abbrev pub Answers : Opened → Request → Reply → List File → Type 0
 Answers o blank reply after = (reply ≡ silent) × (after ≡ o.files)
 Answers o long reply after = (reply ≡ refused (codes "long line")) × (after ≡ o.files)
 Answers o (order k) reply after = (reply ≡ refused (codes "bad line")) × (after ≡ o.files)
-Answers o (law n) reply after = (reply ≡ law_reply n (entry_at o.laws.equations n)) × (after ≡ o.files)
+Answers o (law n) reply after = (reply ≡ law_reply n (law_numbered o.laws.equations n)) × (after ≡ o.files)
 Answers o (number text) reply after = NumberReply o.laws.order o.laws.equations text reply × (after ≡ o.files)
-Answers o (dual n) reply after = DualReply o.laws.equations n (entry_at o.laws.equations n) reply × (after ≡ o.files)
+Answers o (dual n) reply after = DualReply o.laws.equations n (law_numbered o.laws.equations n) reply × (after ≡ o.files)
 Answers o (ask e f) reply after = AskReply o e f reply × (after ≡ o.files)
 Answers o (file word) reply after = ⊥
 Answers o (load word) reply after = ⊥

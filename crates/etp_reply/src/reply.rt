@@ -3,7 +3,7 @@ ghost use Rattle.std.specs.Option.{option_copied};
 ghost use Rattle.etp_theory.specs.Trees.{leaves};
 ghost use Rattle.etp_term.specs.Terms.{tree_of};
 ghost use Rattle.etp_term.specs.Laws.{equation_of};
-ghost use Rattle.etp_laws.specs.LawLists.{entry_at};
+ghost use Rattle.etp_theory.specs.Numbered.{law_numbered};
 ghost use Rattle.etp_text.specs.Refusals.{side_limit};
 ghost use Rattle.etp_items.specs.Reading.{given_text};
 ghost use Rattle.etp_command.specs.Requests.{asked, load};
@@ -71,8 +71,8 @@ pub fn append_law_line(text: &mut Text, n: u32, law: &Law) -> Result<(), AllocEr
 // Writes law n, or that there is none.
 fn answer_law(text: &mut Text, laws: &Laws, n: u32, line: u64) -> Result<bool, AllocError>
     requires { text.old ≡ [] }
-    ensures { IfOk result (λ refusal. (text.new ≡ reply_text line (law_reply n (entry_at laws.now.equations n)))
-        × (refusal ≡ is_refusal (law_reply n (entry_at laws.now.equations n)))) }
+    ensures { IfOk result (λ refusal. (text.new ≡ reply_text line (law_reply n (law_numbered laws.now.equations n)))
+        × (refusal ≡ is_refusal (law_reply n (law_numbered laws.now.equations n)))) }
 {
     match laws.law(n) {
         Some(law) => {
@@ -86,7 +86,7 @@ fn answer_law(text: &mut Text, laws: &Laws, n: u32, line: u64) -> Result<bool, A
 // Writes the law that is the same as the dual of law n.
 fn answer_dual(text: &mut Text, laws: &Laws, n: u32, line: u64) -> Result<bool, AllocError>
     requires { text.old ≡ [] }
-    ensures { IfOk result (λ refusal. Gives line text.new refusal (DualReply laws.now.equations n (entry_at laws.now.equations n))) }
+    ensures { IfOk result (λ refusal. Gives line text.new refusal (DualReply laws.now.equations n (law_numbered laws.now.equations n))) }
 {
     match laws.dual(n) {
         Some(m) => answer_law(text, laws, m, line),

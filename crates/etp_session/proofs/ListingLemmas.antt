@@ -9,7 +9,7 @@ use Rattle.etp_io.specs.Stream.{IsPrefix, AppendsPrefix}
 use Rattle.etp_io.proofs.Laws.{Appends-then, Appends-none, IsPrefix-none, IsPrefix-append, IsPrefix-all}
 use Rattle.etp_theory.specs.Trees.{Equation}
 use Rattle.etp_laws.specs.Listing.{IsTheList}
-use Rattle.etp_laws.specs.LawLists.{entry_at}
+use Rattle.etp_theory.specs.Numbered.{law_numbered}
 use Rattle.etp_laws.proofs.Entries.{entry_after}
 use Rattle.etp_laws.proofs.Unique.{IsTheList-unique}
 use Rattle.etp_reply.specs.Replies.{law_line}
@@ -50,7 +50,7 @@ pub starts-listing : (took : Option (List ℕ)) (laws : List Equation) → Liste
 starts-listing took laws = record { done = []; written = Appends-none took; joined = refl }
 
 -- a line joined the text
-joined-next : (laws : List Equation) (done text text' : List ℕ) (n : ℕ) (p : Equation) → done ++ text ≡ laws_text 1 (take n laws) → entry_at laws (n + 1) ≡ Some p → text' ≡ text ++ law_line (n + 1) p
+joined-next : (laws : List Equation) (done text text' : List ℕ) (n : ℕ) (p : Equation) → done ++ text ≡ laws_text 1 (take n laws) → law_numbered laws (n + 1) ≡ Some p → text' ≡ text ++ law_line (n + 1) p
     → done ++ text' ≡ laws_text 1 (take (n + 1) laws)
 joined-next laws done text text' n p h e t =
     let less : n + 1 - 1 ≡ n = omega arith in
@@ -61,7 +61,7 @@ joined-next laws done text text' n p h e t =
 
 -- and a front of the text was written
 pub listed-next : (took0 took took' : Option (List ℕ)) (laws : List Equation) (text text' text'' : List ℕ) (n : ℕ) (p : Equation)
-    → ListedSofar took0 took laws text n → entry_at laws (n + 1) ≡ Some p → text' ≡ text ++ law_line (n + 1) p → MovesFront text' text'' took took'
+    → ListedSofar took0 took laws text n → law_numbered laws (n + 1) ≡ Some p → text' ≡ text ++ law_line (n + 1) p → MovesFront text' text'' took took'
     → ListedSofar took0 took' laws text'' (n + 1)
 listed-next took0 took took' laws text text' text'' n p h e t m = record {
   done = h.done ++ m.front;
@@ -95,7 +95,7 @@ listing-cut_last k took0 took took' laws text n l h a = record {
 
 -- it ends in the middle of the text
 pub listing-cut : (k : ℕ) (took0 took took' : Option (List ℕ)) (laws : List Equation) (text text' : List ℕ) (n : ℕ) (p : Equation) → IsTheList k laws
-    → ListedSofar took0 took laws text n → entry_at laws (n + 1) ≡ Some p → text' ≡ text ++ law_line (n + 1) p → AppendsPrefix took took' text'
+    → ListedSofar took0 took laws text n → law_numbered laws (n + 1) ≡ Some p → text' ≡ text ++ law_line (n + 1) p → AppendsPrefix took took' text'
     → WritesSomeLaws k took0 took'
 listing-cut k took0 took took' laws text text' n p l h e t a =
     listing-cut_last k took0 took took' laws text' (n + 1) l (record { done = h.done; written = h.written; joined = joined-next laws h.done text text' n p h.joined e t }) a
@@ -110,10 +110,10 @@ listing-all k took0 took took' laws text n l h long a = record {
 }
 
 -- there is a law of each number up to the count
-pub some-law : (laws : List Equation) (n : ℕ) → n < length laws → (p : Equation) × (entry_at laws (n + 1) ≡ Some p)
+pub some-law : (laws : List Equation) (n : ℕ) → n < length laws → (p : Equation) × (law_numbered laws (n + 1) ≡ Some p)
 some-law laws n h =
     let less : n + 1 - 1 ≡ n = omega arith in
-    let e : entry_at laws (n + 1) ≡ slice_get laws n = entry_after laws (n + 1) (omega arith) ∙ ap (slice_get laws) less in
+    let e : law_numbered laws (n + 1) ≡ slice_get laws n = entry_after laws (n + 1) (omega arith) ∙ ap (slice_get laws) less in
     elim ((slice_get_cases laws n).1) [ inl i ↦ (i.0, e ∙ i.2) | inr i ↦ absurd (omega (arith, h, i.0)) ]
 
 pub lists-no_memory : (k : ℕ) (took0 took : Option (List ℕ)) → WritesSomeLaws k took0 took → ListsLaws k took0 took 5

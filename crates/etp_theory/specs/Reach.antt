@@ -1,15 +1,12 @@
 -- What accepted proofs and refutations say of law numbers, and what follows for all pairs.
-use Rattle.std.specs.Prelude.{◌≡◌, ℕ, ◌-◌, List, Contains, slice_index}
+use Rattle.std.specs.Prelude.{◌≡◌, ℕ, List, Contains}
+use Rattle.etp_theory.specs.Numbered.{dual_number}
 
 -- what one file says: its hypothesis implies its goal,
 -- or no law of the first list implies a law of the second
 pub data Fact : Type 0 where
   implies : ℕ → ℕ → Fact
   refutes : List ℕ → List ℕ → Fact
-
--- the number of a law's dual: the list has at place n - 1 the number of the dual of law n
-abbrev pub dual_number : List ℕ → ℕ → ℕ
-dual_number duals n = slice_index duals (n - 1)
 
 -- from a fact's hypothesis to its goal, or from the one's dual to the other's
 pub data Edge (duals : List ℕ) (facts : List Fact) : ℕ → ℕ → Type 0 where

@@ -1,14 +1,10 @@
 -- What makes accepted facts right, over a list of laws and the numbers of their duals.
-use Rattle.std.specs.Prelude.{◌≡◌, ℕ, zero, suc, List, Contains, Option, Some, None, slice_get}
+use Rattle.std.specs.Prelude.{◌≡◌, ℕ, List, Contains, Some}
 use Rattle.etp_theory.specs.Trees.{Equation, law_dual}
+use Rattle.etp_theory.specs.Numbered.{law_numbered, dual_number}
 use Rattle.etp_theory.specs.Sameness.{Same}
 use Rattle.etp_theory.specs.Derivations.{Derives}
-use Rattle.etp_theory.specs.Reach.{Fact, implies, refutes, dual_number}
-
--- laws are numbered from 1
-abbrev pub law_numbered : List Equation → ℕ → Option Equation
-law_numbered laws zero = None
-law_numbered laws (suc k) = slice_get laws k
+use Rattle.etp_theory.specs.Reach.{Fact, implies, refutes}
 
 -- both numbers are listed, and the first one's law derives the second one's
 pub record Implies (laws : List Equation) (e f : ℕ) : Type 0 where

@@ -23,7 +23,8 @@ use Rattle.etp_theory.specs.Overlaps.{Overlap, outer_part, inner_part, left_resu
 use Rattle.etp_theory.specs.FailingOverlaps.{PositionBefore, Place, place, PlaceBefore, IsCriticalPair, KeepsApart, Finding, IsFinding, finding_under, FailsBy, IsFirstFailing}
 use Rattle.etp_theory.specs.Proofs.{IsStepBy, Lemma, conclusion, AreRightLemmas, IsValidProof, AllDerived}
 use Rattle.etp_theory.specs.Reach.{Fact, Reach, Covers}
-use Rattle.etp_theory.specs.RightFacts.{law_numbered, AreRightFacts}
+use Rattle.etp_theory.specs.Numbered.{law_numbered}
+use Rattle.etp_theory.specs.RightFacts.{AreRightFacts}
 
 pub record TermLaws : Type 0 where
   pub leaves_ops : (t : Tree) → leaves t ≡ ops t + 1
