@@ -10,7 +10,7 @@ use Rattle.etp_theory.specs.Reach.{implies, refutes, dual_edge, dual_pair, Reach
 use Rattle.etp_theory.specs.Examples.{idempotent, left_projection, plain_weight}
 use Rattle.etp_theory.proofs.Convergent.{refuted}
 
-abbrev system : List Equation
+abbrev pub system : List Equation
 system = idempotent ∷ []
 
 listed : (i : ℕ) (e : Equation) → slice_get system i ≡ Some e → (i ≡ 0) × (idempotent ≡ e)

@@ -19,7 +19,7 @@ use Rattle.etp_theory.proofs.Ends.{looked_at, not_both, one_finding}
 module _ (rules : List Equation) where
   -- overlaps at one place are alike
 
-  record Alike (o o' : Overlap rules) : Type 0 where
+  pub record Alike (o o' : Overlap rules) : Type 0 where
     outer_parts : outer_part o ≡ outer_part o'
     inner_parts : inner_part o ≡ inner_part o'
     lefts : (m : ℕ → Tree) → left_result o m ≡ left_result o' m
@@ -31,7 +31,7 @@ module _ (rules : List Equation) where
   one_part : (p q : List Side) (s t u v : Tree) → sub_at p s ≡ Some u → sub_at q t ≡ Some v → p ≡ q → s ≡ t → u ≡ v
   one_part p q s t u v h k e f = let x : Some u ≡ Some v = sym h ∙ ap₂ sub_at e f ∙ k in cc
 
-  alike : (o o' : Overlap rules) → o.outer ≡ o'.outer → o.position ≡ o'.position → o.inner ≡ o'.inner → Alike o o'
+  pub alike : (o o' : Overlap rules) → o.outer ≡ o'.outer → o.position ≡ o'.position → o.inner ≡ o'.inner → Alike o o'
   alike o o' a b c =
       let outers = one_rule o.outer o'.outer o.outer_rule o'.outer_rule o.outer_listed o'.outer_listed a in
       let inners = one_rule o.inner o'.inner o.inner_rule o'.inner_rule o.inner_listed o'.inner_listed c in
@@ -44,7 +44,7 @@ module _ (rules : List Equation) where
             ∙ ap₂ (put_at o'.position) (ap (apply m) lefts) (ap (λ (e : Equation). apply m (raise e.right)) inners);
       }
 
-  passes_alike : (o o' : Overlap rules) → Alike o o' → PairPasses rules o → PairPasses rules o'
+  pub passes_alike : (o o' : Overlap rules) → Alike o o' → PairPasses rules o → PairPasses rules o'
   passes_alike o o' a (no_unifier h) = no_unifier (subst₂ NoUnifier a.outer_parts a.inner_parts h)
   passes_alike o o' a (one_form m b h) = one_form m (subst₂ (IsBest m) a.outer_parts a.inner_parts b) (subst₂ (HaveOneForm rules) (a.lefts m) (a.rights m) h)
 

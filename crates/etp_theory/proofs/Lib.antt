@@ -8,6 +8,7 @@ pub mod Weights
 pub mod Newman
 pub mod Matching
 pub mod Firing
+pub mod FiredFirst
 pub mod NormalForms
 pub mod Overlaps
 pub mod Unifiers
@@ -17,6 +18,7 @@ pub mod Convergent
 pub mod Renaming
 pub mod Rounds
 pub mod Passing
+pub mod Limits
 pub mod Places
 pub mod General
 pub mod Ends
@@ -24,3 +26,6 @@ pub mod Failing
 pub mod Reaching
 pub mod Examples
 pub mod FirstExample
+pub mod LimitExamples
+pub mod LawExamples
+pub mod RuleExamples

@@ -47,7 +47,7 @@ swap_twice a b x = go (eqb x a) refl (eqb x b) refl
     go false h true k = swap_first a b ∙ sym (eqb-true x b k)
     go false h false k = ap₂ (λ c d. cond c b (cond d a x)) h k
 
-swap_injective : (a b : ℕ) → IsInjective (swap a b)
+pub swap_injective : (a b : ℕ) → IsInjective (swap a b)
 swap_injective a b x y h = sym (swap_twice a b x) ∙ ap (swap a b) h ∙ swap_twice a b y
 
 -- a renaming that undoes another one below `n`

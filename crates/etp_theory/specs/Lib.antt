@@ -22,3 +22,6 @@ pub mod Reach
 pub mod RightFacts
 pub mod Theorems
 pub mod Examples
+pub mod LawExamples
+pub mod RuleExamples
+pub mod LimitExamples

@@ -1,5 +1,5 @@
 -- The step of a term by the strategy, the walk, and its end.
-use Rattle.std.specs.Prelude.{ℕ, zero, suc, Bool, true, false, cond, eqb, List, [], ◌∷◌, Option, Some, None}
+use Rattle.std.specs.Prelude.{ℕ, zero, suc, Bool, true, false, cond, eqb, List, [], ◌∷◌, Option, Some, None, ⊤}
 use Rattle.etp_theory.specs.Trees.{Tree, var, op, Equation}
 use Rattle.etp_theory.specs.Substitutions.{apply, value_or}
 use Rattle.etp_theory.specs.Positions.{Side, to_left, to_right}
@@ -97,3 +97,13 @@ fired rules (op l r) =
     first_some (within (fired_inside to_left (λ x. op x r)) (fired rules l))
     (first_some (within (fired_inside to_right (λ x. op l x)) (fired rules r))
     (fired_root 0 rules (op l r)))
+
+-- the order in which the strategy tries positions: those in the left part, then those in the
+-- right part, then the root
+abbrev pub TriedBefore : List Side → List Side → Type 0
+TriedBefore [] q = ⊥
+TriedBefore (d ∷ p) [] = ⊤
+TriedBefore (to_left ∷ p) (to_left ∷ q) = TriedBefore p q
+TriedBefore (to_left ∷ p) (to_right ∷ q) = ⊤
+TriedBefore (to_right ∷ p) (to_left ∷ q) = ⊥
+TriedBefore (to_right ∷ p) (to_right ∷ q) = TriedBefore p q

@@ -16,7 +16,7 @@ use Rattle.etp_theory.specs.Magmas.{meaning, IsClosed, Holds}
 use Rattle.etp_theory.specs.Tables.{HoldsInLists, place_of, IsAssignment, assigned, below}
 use Rattle.etp_theory.specs.Rewriting.{Step, StepAt, Steps, Joinable, Convertible, IsLocallyConfluent}
 use Rattle.etp_theory.specs.Weights.{sum_to, coefficient, constant, IsDecreasing, Weight, weigh, AllDecrease}
-use Rattle.etp_theory.specs.Strategy.{next, within, Fired, fired, normal_form, is_normal, normal_op}
+use Rattle.etp_theory.specs.Strategy.{next, walk, within, Fired, fired, normal_form, is_normal, normal_op, TriedBefore}
 use Rattle.etp_theory.specs.Forms.{IsFormOf, HaveOneForm, HasForm, PassesTermLimit, PassesStepLimit}
 use Rattle.etp_theory.specs.Unifiers.{IsMostGeneral, IsMostGeneralPartial, IsBest, NoUnifier}
 use Rattle.etp_theory.specs.Overlaps.{Overlap, outer_part, inner_part, left_result, right_result, PairPasses, PairsJoin, HasSmallVariables, IsConvergent}
@@ -175,6 +175,28 @@ pub record StrategyLaws : Type 0 where
   pub fired_next : (rules : List Equation) (s : Tree) → within (λ (x : Fired). x.to) (fired rules s) ≡ next rules s
   pub fired_at : (rules : List Equation) (s : Tree) (x : Fired) → fired rules s ≡ Some x
       → (h : StepAt rules s x.to) × (h.number ≡ x.number) × (h.position ≡ x.position)
+  -- it is the first one: none is at a position tried before, and none there is by a lower rule
+  pub fired_first : (rules : List Equation) (s : Tree) (x : Fired) → fired rules s ≡ Some x
+      → (t : Tree) (h : StepAt rules s t)
+      → (TriedBefore h.position x.position → ⊥) × (h.position ≡ x.position → x.number ≤ h.number)
+  -- the order in which positions are tried is strict and total
+  pub tried_irreflexive : (p : List Side) → TriedBefore p p → ⊥
+  pub tried_transitive : (p q r : List Side) → TriedBefore p q → TriedBefore q r → TriedBefore p r
+  pub tried_total : (p q : List Side) → (p ≡ q) ⊎ (TriedBefore p q ⊎ TriedBefore q p)
+
+-- the limits of a walk: 100000 steps, and terms of 512 leaves
+pub record LimitLaws : Type 0 where
+  -- a form is reached by at most that many steps, and no term on the way has more leaves
+  pub form : (rules : List Equation) (s u : Tree) → IsFormOf rules s u
+      ↔ ((n : ℕ) × (n ≤ 100000) × (walk rules n s ≡ u) × (next rules u ≡ None)
+      × ((k : ℕ) → k ≤ n → leaves (walk rules k s) ≤ 512))
+  -- within that many steps a term with more leaves comes
+  pub wide : (rules : List Equation) (s : Tree) → PassesTermLimit rules s
+      ↔ ((n : ℕ) × (n ≤ 100000) × (512 < leaves (walk rules n s)))
+  -- after that many steps there is a next one, and no term so far has more leaves
+  pub long : (rules : List Equation) (s : Tree) → PassesStepLimit rules s
+      ↔ ((n : ℕ) × (n ≡ 100000) × ((k : ℕ) → k ≤ n → leaves (walk rules k s) ≤ 512)
+      × (next rules (walk rules n s) ≢ None))
 
 -- decreasing rules that are locally confluent give one normal form (Newman 1942); `next` has no step
 -- of a term exactly where none is there, so this is the form of the strategy's walk

@@ -7,7 +7,10 @@ mod magma;
 mod tests;
 
 ghost use Rattle.etp_theory.specs.Examples.{Examples};
-ghost use Rattle.etp_theory.specs.Theorems.{TermLaws, OrderLaws, SubstitutionLaws, PositionLaws, DualLaws, SamenessLaws, DerivationLaws, ProofLaws, MagmaLaws, TableLaws, WeightLaws, RewritingLaws, StrategyLaws, NewmanLaws, UnificationLaws, CriticalPairLaws, OverlapLaws, NormalFormLaws, ReachLaws};
+ghost use Rattle.etp_theory.specs.LawExamples.{LawExamples};
+ghost use Rattle.etp_theory.specs.LimitExamples.{LimitExamples};
+ghost use Rattle.etp_theory.specs.RuleExamples.{RuleExamples};
+ghost use Rattle.etp_theory.specs.Theorems.{TermLaws, OrderLaws, SubstitutionLaws, PositionLaws, DualLaws, SamenessLaws, DerivationLaws, ProofLaws, MagmaLaws, TableLaws, WeightLaws, RewritingLaws, StrategyLaws, LimitLaws, NewmanLaws, UnificationLaws, CriticalPairLaws, OverlapLaws, NormalFormLaws, ReachLaws};
 
 pub use magma::{Magma, keeps_derived};
 
@@ -77,6 +80,11 @@ pub fn strategy_laws()
     ensures { StrategyLaws }
 {}
 
+/// The limits of a walk, said by their numbers.
+pub fn limit_laws()
+    ensures { LimitLaws }
+{}
+
 /// One normal form from local confluence (Newman 1942).
 pub fn newman_laws()
     ensures { NewmanLaws }
@@ -110,4 +118,19 @@ pub fn reach_laws()
 /// Small laws and systems at which the definitions are computed.
 pub fn worked_examples()
     ensures { Examples }
+{}
+
+/// Laws whose sameness, duals, order and proofs are computed, and facts about them.
+pub fn law_examples()
+    ensures { LawExamples }
+{}
+
+/// Rules whose steps, weights and overlaps are computed.
+pub fn rule_examples()
+    ensures { RuleExamples }
+{}
+
+/// Walks at the limits.
+pub fn limit_examples()
+    ensures { LimitExamples }
 {}
