@@ -1,12 +1,12 @@
 -- Proofs of laws and facts about laws.
-use Rattle.std.proofs.Common.{◌≡◌, ℕ, zero, suc, ◌+◌, ◌⊎◌, inl, inr, false, [], ◌∷◌, Contains, Some, refl, sym, ap, subst, subst₂, arith}
+use Rattle.std.proofs.Common.{◌≡◌, ℕ, zero, suc, ◌+◌, ◌≤◌, ◌⊎◌, inl, inr, false, [], ◌∷◌, Contains, Some, refl, sym, ap, subst, subst₂, arith}
 use Rattle.etp_theory.specs.Trees.{var, op, Equation, law_dual, law_renamed, exchanged}
 use Rattle.etp_theory.specs.Positions.{to_right}
 use Rattle.etp_theory.specs.Sameness.{Same}
 use Rattle.etp_theory.specs.Derivations.{Derives, by_law}
 use Rattle.etp_theory.specs.Proofs.{IsRightStep, IsStepBy, IsValidProof}
 use Rattle.etp_theory.specs.Reach.{Fact, implies, refutes}
-use Rattle.etp_theory.specs.Numbered.{law_numbered}
+use Rattle.etp_theory.specs.Numbered.{law_numbered, dual_number, IsLaw, IsOwnInverse}
 use Rattle.etp_theory.specs.RightFacts.{Refutes, IsRightFact, AreDualNumbers, AreRightFacts}
 use Rattle.etp_theory.specs.Examples.{square, idempotent, left_projection, right_projection, plain_weight}
 use Rattle.etp_theory.specs.LawExamples.{turned_projection, squared, square_lemma, squared_lemma, citing_lemma, three_laws}
@@ -122,3 +122,37 @@ wrong_refutation h =
     let a : left_projection ≡ r.holding = let q : Some left_projection ≡ Some r.holding = r.holding_listed in cc in
     let b : idempotent ≡ r.failing = let q : Some idempotent ≡ Some r.failing = r.failing_listed in cc in
     r.apart (subst₂ Derives a b by_projection)
+
+-- numbers of laws
+
+pub law_between : (n : ℕ) → 1 ≤ n → n ≤ 3 → IsLaw 3 n
+law_between n h k = record { from_one = h; to_last = k }
+
+pub no_law_zero : IsLaw 3 0 → ⊥
+no_law_zero h = omega (arith, h.from_one)
+
+pub no_law_four : IsLaw 3 4 → ⊥
+no_law_four h = omega (arith, h.to_last)
+
+own_within : (n : ℕ) → IsLaw 3 n → IsLaw 3 (dual_number (2 ∷ 1 ∷ 3 ∷ []) n)
+own_within zero h = absurd (no_law_zero h)
+own_within (suc zero) h = record { from_one = omega arith; to_last = omega arith }
+own_within (suc (suc zero)) h = record { from_one = omega arith; to_last = omega arith }
+own_within (suc (suc (suc zero))) h = record { from_one = omega arith; to_last = omega arith }
+own_within (suc (suc (suc (suc n)))) h = absurd (omega (arith, h.to_last))
+
+own_twice : (n : ℕ) → IsLaw 3 n → dual_number (2 ∷ 1 ∷ 3 ∷ []) (dual_number (2 ∷ 1 ∷ 3 ∷ []) n) ≡ n
+own_twice zero h = absurd (no_law_zero h)
+own_twice (suc zero) h = refl
+own_twice (suc (suc zero)) h = refl
+own_twice (suc (suc (suc zero))) h = refl
+own_twice (suc (suc (suc (suc n)))) h = absurd (omega (arith, h.to_last))
+
+pub own_inverse : IsOwnInverse (2 ∷ 1 ∷ 3 ∷ [])
+own_inverse = record { within = own_within; twice = own_twice }
+
+pub not_inverse : IsOwnInverse (2 ∷ 3 ∷ 1 ∷ []) → ⊥
+not_inverse h = let e : ◌≡◌ {A = ℕ} 3 1 = h.twice 1 (law_between 1 (omega arith) (omega arith)) in omega (arith, e)
+
+pub not_within : IsOwnInverse (2 ∷ []) → ⊥
+not_within h = let e : 2 ≤ 1 = (h.within 1 (record { from_one = omega arith; to_last = omega arith })).to_last in omega (arith, e)

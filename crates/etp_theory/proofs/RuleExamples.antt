@@ -11,7 +11,7 @@ use Rattle.etp_theory.specs.Unifiers.{IsMostGeneral}
 use Rattle.etp_theory.specs.Overlaps.{Overlap, outer_part, inner_part, HasSmallVariables, IsConvergent, PairPasses}
 use Rattle.etp_theory.specs.FailingOverlaps.{IsCriticalPair}
 use Rattle.etp_theory.specs.Examples.{left_projection}
-use Rattle.etp_theory.specs.RuleExamples.{associative, left_weight}
+use Rattle.etp_theory.specs.RuleExamples.{associative, left_weight, idempotent_at}
 use Rattle.etp_theory.proofs.Passing.{convergent_of, form_of_walk}
 use Rattle.etp_theory.proofs.Failing.{alike, passes_alike, one_pair_tells}
 
@@ -132,3 +132,12 @@ passes o =
 
 pub associative_convergent : IsConvergent left_weight system
 associative_convergent = convergent_of left_weight system all_decrease small passes
+
+-- variables of rules
+
+pub variable_63 : HasSmallVariables (idempotent_at 63 ∷ [])
+variable_63 zero e h = subst (λ (r : Equation). (bound r.left ≤ 64) × (bound r.right ≤ 64)) (let q : idempotent_at 63 ≡ e = cc in q) (omega arith, omega arith)
+variable_63 (suc i) e h = absurd (cc)
+
+pub no_variable_64 : HasSmallVariables (idempotent_at 64 ∷ []) → ⊥
+no_variable_64 h = omega (arith, (h 0 (idempotent_at 64) refl).1)

@@ -6,6 +6,7 @@ use Rattle.etp_theory.specs.Orders.{shape_cmp, law_cmp}
 use Rattle.etp_theory.specs.Positions.{to_right}
 use Rattle.etp_theory.specs.Sameness.{Same}
 use Rattle.etp_theory.specs.Proofs.{Lemma, line_equation, cited_equation, IsValidProof}
+use Rattle.etp_theory.specs.Numbered.{IsLaw, IsOwnInverse}
 use Rattle.etp_theory.specs.Reach.{implies, refutes}
 use Rattle.etp_theory.specs.RightFacts.{IsRightFact, AreDualNumbers, AreRightFacts}
 use Rattle.etp_theory.specs.Examples.{square, idempotent, left_projection, right_projection}
@@ -78,6 +79,13 @@ pub record LawExamples : Type 0 where
   pub cite_one : cited_equation (idempotent ∷ []) 1 ≡ Some idempotent
   pub by_lemma : IsValidProof left_projection squared [] (square_lemma ∷ squared_lemma ∷ [])
   pub by_cite : IsValidProof left_projection squared (idempotent ∷ []) (citing_lemma ∷ [])
+  -- laws count from 1, and a list of duals names each law by its dual
+  pub first_and_last : IsLaw 3 1 × IsLaw 3 3
+  pub no_law_zero : IsLaw 3 0 → ⊥
+  pub no_law_four : IsLaw 3 4 → ⊥
+  pub own_inverse : IsOwnInverse (2 ∷ 1 ∷ 3 ∷ [])
+  pub not_inverse : IsOwnInverse (2 ∷ 3 ∷ 1 ∷ []) → ⊥
+  pub not_within : IsOwnInverse (2 ∷ []) → ⊥
   -- the laws of the projections imply x ◇ x = x, which implies neither
   pub dual_numbers : AreDualNumbers three_laws (2 ∷ 1 ∷ 3 ∷ [])
   pub not_dual_numbers : AreDualNumbers three_laws (1 ∷ 2 ∷ 3 ∷ []) → ⊥

@@ -1,11 +1,11 @@
 -- Rules whose steps, weights and overlaps are computed.
-use Rattle.std.specs.Prelude.{◌≡◌, [], ◌∷◌, Some}
+use Rattle.std.specs.Prelude.{◌≡◌, ℕ, [], ◌∷◌, Some}
 use Rattle.etp_theory.specs.Trees.{var, op, Equation}
 use Rattle.etp_theory.specs.Positions.{to_left, to_right}
 use Rattle.etp_theory.specs.Rewriting.{Convertible}
 use Rattle.etp_theory.specs.Weights.{Weight, coefficient, constant}
 use Rattle.etp_theory.specs.Strategy.{next, fired}
-use Rattle.etp_theory.specs.Overlaps.{IsConvergent}
+use Rattle.etp_theory.specs.Overlaps.{HasSmallVariables, IsConvergent}
 use Rattle.etp_theory.specs.Examples.{idempotent, left_projection}
 
 -- (x ◇ y) ◇ z = x ◇ (y ◇ z)
@@ -18,6 +18,10 @@ associative = record {
 -- twice the weight of the left part, once that of the right part, and one more
 abbrev pub left_weight : Weight
 left_weight = record { on_left = 2; on_right = 1; added = 1 }
+
+-- v ◇ v = v, with the variable of that number
+abbrev pub idempotent_at : ℕ → Equation
+idempotent_at v = record { left = op (var v) (var v); right = var v }
 
 pub record RuleExamples : Type 0 where
   -- of a redex in the right part and one at the root the one in the right part is first
@@ -37,3 +41,6 @@ pub record RuleExamples : Type 0 where
   pub right_coefficient : coefficient left_weight associative.right 0 ≡ 2
   -- it lowers this weight and overlaps itself in its left part, with one form
   pub associative_convergent : IsConvergent left_weight (associative ∷ [])
+  -- a rule's variables are those below 64
+  pub variable_63 : HasSmallVariables (idempotent_at 63 ∷ [])
+  pub no_variable_64 : HasSmallVariables (idempotent_at 64 ∷ []) → ⊥

@@ -1,5 +1,5 @@
 use Rattle.std.proofs.Common.{refl}
-use Rattle.etp_theory.proofs.RuleExamples.{backward, associative_convergent}
+use Rattle.etp_theory.proofs.RuleExamples.{backward, associative_convergent, variable_63, no_variable_64}
 use Rattle.etp_theory.proofs.rule_examples.Goals as goal
 
 pub returns : goal.returns
@@ -13,4 +13,6 @@ returns c = record {
   left_coefficient = refl;
   right_coefficient = refl;
   associative_convergent = associative_convergent;
+  variable_63 = variable_63;
+  no_variable_64 = no_variable_64;
 }
