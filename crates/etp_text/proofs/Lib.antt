@@ -5,3 +5,4 @@ pub mod Reaching
 pub mod Answering
 pub mod Writing
 pub mod OneRefusal
+pub mod Lengths

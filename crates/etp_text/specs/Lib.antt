@@ -1,4 +1,5 @@
 pub mod Written
+pub mod Growth
 pub mod Grammar
 pub mod Refusals
 pub mod Machine

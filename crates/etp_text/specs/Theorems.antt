@@ -1,5 +1,5 @@
 -- What ties texts, spellings and refusals together.
-use Rattle.std.specs.Prelude.{ℕ, List, ◌≡◌, ◌≢◌, ◌≤◌}
+use Rattle.std.specs.Prelude.{ℕ, List, ◌≡◌, ◌≢◌, ◌≤◌, ◌+◌, ◌*◌, length}
 use Rattle.etp_theory.specs.Trees.{Tree, Equation, bound, leaves}
 use Rattle.etp_text.specs.Written.{written_term, written_law}
 use Rattle.etp_text.specs.Grammar.{SpellsTerm, SpellsLaw}
@@ -14,6 +14,8 @@ pub record TextLaws : Type 0 where
   -- the written form spells what it is written of; the 64 variables are those that have a name
   pub written_term_spells : (t : Tree) → bound t ≤ 64 → SpellsTerm (written_term t) t
   pub written_law_spells : (law : Equation) → bound law.left ≤ 64 → bound law.right ≤ 64 → SpellsLaw (written_law law) law
+  -- the written form of a term takes at most ten bytes for each leaf, less seven
+  pub written_term_short : (t : Tree) → bound t ≤ 64 → length (written_term t) + 7 ≤ 10 * leaves t
   -- what is spelled within the limit has no refusal
   pub term_stands : (bytes : List ℕ) (t : Tree) (e : TextRefusal)
       → SpellsTerm bytes t → leaves t ≤ side_limit → RefusesTerm bytes e → e ≡ NoMemory

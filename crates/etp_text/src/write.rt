@@ -1,8 +1,9 @@
-ghost use Rattle.std.specs.Prelude.{◌≡◌, ◌≤◌, ◌++◌, OnOk, IfOk};
+ghost use Rattle.std.specs.Prelude.{◌≡◌, ◌≤◌, ◌++◌, OnOk, OnErr, IfOk};
 ghost use Rattle.etp_theory.specs.Trees.{bound};
 ghost use Rattle.etp_term.specs.Terms.{tree_of};
 ghost use Rattle.etp_term.specs.Laws.{equation_of};
 ghost use Rattle.etp_text.specs.Grammar.{SpellsTerm, SpellsLaw};
+ghost use Rattle.etp_text.specs.Growth.{BeginsWith};
 ghost use Rattle.etp_text.specs.Written.{variable_name, written_part, written_term, written_law};
 
 use crate::text::Text;
@@ -31,18 +32,22 @@ pub fn write_law(alloc: Global, law: &Law) -> Result<Text, AllocError>
 }
 
 impl Text {
-    /// Appends a law as it is written. After want of memory a part of it may stand.
+    /// Appends a law as it is written. After want of memory a part of it may stand behind
+    /// what stood before.
     pub fn append_law(&mut self, law: &Law) -> Result<(), AllocError>
-        ensures { OnOk result (self.new ≡ self.old ++ written_law (equation_of law.now)) }
+        ensures ok { OnOk result (self.new ≡ self.old ++ written_law (equation_of law.now)) }
+        ensures err { OnErr result (BeginsWith self.new self.old) }
     {
         self.append_term(&law.left)?;
         self.append(b" = ")?;
         self.append_term(&law.right)
     }
 
-    /// Appends a term as it is written. After want of memory a part of it may stand.
+    /// Appends a term as it is written. After want of memory a part of it may stand behind
+    /// what stood before.
     pub fn append_term(&mut self, term: &Term) -> Result<(), AllocError>
-        ensures { OnOk result (self.new ≡ self.old ++ written_term (tree_of term.now)) }
+        ensures ok { OnOk result (self.new ≡ self.old ++ written_term (tree_of term.now)) }
+        ensures err { OnErr result (BeginsWith self.new self.old) }
     {
         match term {
             Term::Var(v) => self.append_variable(*v),
@@ -55,7 +60,8 @@ impl Text {
     }
 
     fn append_part(&mut self, term: &Term) -> Result<(), AllocError>
-        ensures { OnOk result (self.new ≡ self.old ++ written_part (tree_of term.now)) }
+        ensures ok { OnOk result (self.new ≡ self.old ++ written_part (tree_of term.now)) }
+        ensures err { OnErr result (BeginsWith self.new self.old) }
     {
         match term {
             Term::Var(v) => self.append_variable(*v),
@@ -70,7 +76,8 @@ impl Text {
     }
 
     fn append_variable(&mut self, variable: u8) -> Result<(), AllocError>
-        ensures { OnOk result (self.new ≡ self.old ++ variable_name variable) }
+        ensures ok { OnOk result (self.new ≡ self.old ++ variable_name variable) }
+        ensures err { OnErr result (BeginsWith self.new self.old) }
     {
         match variable {
             0 => self.append(b"x"),

@@ -8,4 +8,4 @@ use Rattle.etp_text.proofs.write.write_term.Goals as goal
 pub returns-clause-spells : goal.returns-clause-spells
 returns-clause-spells c few =
     let term = tree_of c.args.term.now in
-    subst (λ text. SpellsTerm text term) (sym (c.in_ok-append_term.ensures ∙ ap (λ x. x ++ written_term term) c.empty-text.ensures)) (written_term_spells term few)
+    subst (λ text. SpellsTerm text term) (sym (c.in_ok-append_term.ensures.ok ∙ ap (λ x. x ++ written_term term) c.empty-text.ensures)) (written_term_spells term few)
