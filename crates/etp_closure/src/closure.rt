@@ -1,6 +1,7 @@
 ghost use Rattle.std.specs.Prelude.{◌≡◌, ℕ, ◌+◌, ◌<◌, ◌↔◌, All, OnOk, OnErr, IfOk, IfSome, IsSome, Some, None, List, [], ◌∷◌, ◌++◌, length, not, ◌&&◌, ◌||◌};
 ghost use Rattle.std.specs.List.{list_any};
 ghost use Rattle.etp_theory.specs.Reach.{Fact as FactOf, implies, refutes};
+ghost use Rattle.etp_bits.specs.Bits.{SameSizes};
 ghost use Rattle.etp_bits.specs.Counts.{count_below};
 ghost use Rattle.etp_theory.specs.Numbered.{IsLaw, IsOwnInverse, dual_number};
 ghost use Rattle.etp_closure.specs.Closures.{IsKept, slot_of, is_reached, is_covered, SameAnswers, StandsFor, IsReserved, KeepsSlots};
@@ -157,6 +158,8 @@ impl Closure {
         ensures answers { SameAnswers self.old self.new }
         ensures stands { (facts : List FactOf) → StandsFor self.old facts → StandsFor self.new facts }
         ensures err { OnErr result (self.new.slots ≡ self.old.slots) }
+        ensures err_reached { OnErr result (SameSizes self.old.reached self.new.reached) }
+        ensures err_covered { OnErr result (SameSizes self.old.covered self.new.covered) }
     {
         let before = self.laws.len();
         keep_or_leave(&mut self.slots, &mut self.laws, &self.duals, first, second)?;

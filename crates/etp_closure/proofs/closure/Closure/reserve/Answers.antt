@@ -1,10 +1,11 @@
 use Rattle.std.proofs.Common.{◌≡◌, ◌<◌, ◌∙◌, ◌↔◌, ap, sym, subst, arith, length, List, ℕ, All, Some, ◌≤◌, is_ok, true, false, not}
 use Rattle.std.specs.Vec.{with_items}
 use Rattle.std.proofs.lemmas.List.{with_items_is, length-take-le}
+use Rattle.etp_bits.specs.Bits.{Bits, SameSizes}
 use Rattle.etp_theory.specs.Reach.{Fact}
 use Rattle.etp_theory.specs.Numbered.{IsLaw}
 use Rattle.etp_closure.specs.Closures.{Known, IsKept, IsReserved, KeepsSlots, SameAnswers, StandsFor, slot_of}
-use Rattle.etp_closure.specs.Tables.{IsClosure, Extends}
+use Rattle.etp_closure.specs.Tables.{IsClosure, IsSquare, Extends}
 use Rattle.etp_closure.proofs.Truths.{Reserved, reserve_ok, reserve_err, slots_back}
 use Rattle.etp_closure.proofs.closure.Closure.reserve.Goals as goal
 
@@ -119,3 +120,28 @@ returns-then-is_err-clause-stands c =
 
 pub returns-then-is_err-clause-err : goal.returns-then-is_err-clause-err
 returns-then-is_err-clause-err c = written_back c ∙ given c ∙ ap (λ (k : Known). k.slots) c.self.view_is
+
+-- both tables have a row and a column for each law again
+same_sizes : (old new : Bits) (m n : ℕ) → n ≡ m → IsSquare old m → IsSquare new n → SameSizes old new
+same_sizes old new m n e before after = record {
+  rows_stay = after.rows_are ∙ e ∙ sym before.rows_are;
+  columns_stay = after.columns_are ∙ e ∙ sym before.columns_are;
+}
+
+count_back : (c : goal.After-self-then-is_err-1) → c.len-before.result ≡ length c.self.inside.laws.items
+count_back c = omega (arith, c.len-before.ensures, c.self.inside.laws.ok.0)
+
+failed : (c : goal.After-self-then-is_err-1) → is_ok c.grow_all.result ≡ false
+failed c = c.is_err.ensures.negation ∙ ap not c.if-is_err.true
+
+pub returns-then-is_err-clause-err_reached : goal.returns-then-is_err-clause-err_reached
+returns-then-is_err-clause-err_reached c =
+    let err = failed c in
+    subst (λ (k : Known). SameSizes k.reached c.grow_all.new.reached) c.self.view_is
+    (same_sizes c.self.inside.reached c.grow_all.new.reached (length c.self.inside.laws.items) c.len-before.result (count_back c) c.self.invariant.reached_size (rw err at c.grow_all.ensures.reached_size))
+
+pub returns-then-is_err-clause-err_covered : goal.returns-then-is_err-clause-err_covered
+returns-then-is_err-clause-err_covered c =
+    let err = failed c in
+    subst (λ (k : Known). SameSizes k.covered c.grow_all.new.covered) c.self.view_is
+    (same_sizes c.self.inside.covered c.grow_all.new.covered (length c.self.inside.laws.items) c.len-before.result (count_back c) c.self.invariant.covered_size (rw err at c.grow_all.ensures.covered_size))
