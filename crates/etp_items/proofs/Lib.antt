@@ -10,3 +10,5 @@ pub mod WrittenLemmas
 pub mod ReadBack
 pub mod WrittenReads
 pub mod Writable
+pub mod ShortLines
+pub mod ReadAgain

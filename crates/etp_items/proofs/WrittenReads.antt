@@ -181,7 +181,7 @@ abbrev pub as_given : List Line → List LineText
 as_given [] = []
 as_given (l ∷ ls) = whole (written_line l) ∷ as_given ls
 
-lines_back : (ls : List Line) → AllByRecursion IsWritable ls → AllByRecursion IsShort ls → lines_of (written_lines ls) ≡ as_given ls
+pub lines_back : (ls : List Line) → AllByRecursion IsWritable ls → AllByRecursion IsShort ls → lines_of (written_lines ls) ≡ as_given ls
 lines_back [] h k = refl
 lines_back (l ∷ ls) h k =
     let text = line_text l h.0 in

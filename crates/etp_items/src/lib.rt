@@ -16,7 +16,7 @@ mod writing;
 
 pub use body::Body;
 pub use numbers::number_word;
-pub use proof_lines::{Version, lemma_line, step_line};
+pub use proof_lines::{lemma_line, step_line};
 pub use reader::BodyReader;
 pub use refusal::BodyRefusal;
 pub use words::{is, is_comment, next_word, skip_blanks};

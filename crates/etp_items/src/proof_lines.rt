@@ -19,7 +19,7 @@ use std::alloc::Global;
 
 /// The two forms of a proof: one by its own lemmas, and one that may cite files.
 #[derive(Clone, Copy, Debug, PartialEq, Eq)]
-pub enum Version {
+pub(crate) enum Version {
     Plain,
     Citing,
 }

@@ -1,5 +1,8 @@
 // Bodies by their lines, and what is written of them.
 use crate::{Body, BodyReader, BodyRefusal, body_text, lemma_line, step_line};
+use etp_replay::{Proof, Step};
+use etp_term::{Position, Side};
+use etp_text::write_term;
 use std::alloc::{AllocError, Global};
 
 // Lines, then so many lines without a byte, closed or not; a line of None is too long.
@@ -186,5 +189,115 @@ fn lines_of_a_lemma_and_of_a_step_are_read(rt: HostRuntime) {
     match step {
         Some(step) => assert!(rt; step.line == 7 && step.reversed && step.position.len() == 2),
         None => assert!(rt; false),
+    }
+}
+
+// What is to stand in a step: its lemma and its place there, from 0 on, the line that it names, its direction,
+// its position's letters and its term.
+#[derive(Clone, Copy)]
+struct Expected<'a> {
+    lemma: u32,
+    place: u32,
+    line: u32,
+    reversed: bool,
+    position: &'a [u8],
+    term: &'a str,
+}
+
+fn is_at(position: &Position, letters: &[u8]) -> bool {
+    for (side, letter) in position.as_slice().iter().zip(letters) {
+        let expected = match side {
+            Side::L => b'l',
+            Side::R => b'r',
+        };
+        if *letter != expected {
+            return false;
+        }
+    }
+    position.as_slice().len() == letters.len()
+}
+
+fn is_expected(alloc: Global, step: &Step, expected: &Expected<'_>) -> Result<bool, AllocError> {
+    let term = write_term(alloc, &step.to)?;
+    Ok(
+        step.line == expected.line
+            && step.reversed == expected.reversed
+            && !step.cited
+            && is_at(&step.position, expected.position)
+            && term.as_slice() == expected.term.as_bytes(),
+    )
+}
+
+fn stands(alloc: Global, proof: &Proof, expected: &Expected<'_>) -> Result<bool, AllocError> {
+    let Some(lemma) = proof.lemmas.get(expected.lemma) else {
+        return Ok(false);
+    };
+    match lemma.steps.get(expected.place) {
+        Some(step) => is_expected(alloc, step, expected),
+        None => Ok(false),
+    }
+}
+
+fn step_count(proof: &Proof, lemma: u32) -> Option<u32> {
+    Some(proof.lemmas.get(lemma)?.steps.len())
+}
+
+fn is_two_lemmas(proof: &Proof) -> bool {
+    proof.hypothesis == 43
+        && proof.goal == 4512
+        && proof.lemmas.len() == 2
+        && step_count(proof, 0) == Some(1)
+        && step_count(proof, 1) == Some(2)
+}
+
+#[test]
+fn two_lemmas_are_read_with_their_steps(rt: HostRuntime) {
+    let case = Case {
+        lines: &[
+            Some("proof 43 4512"),
+            Some("lemma x * y"),
+            Some("step 0 > . y * x"),
+            Some(""),
+            Some("lemma (x * y) * z"),
+            Some("step 1 > l (y * x) * z"),
+            Some("step 0 < . z * (y * x)"),
+        ],
+        blanks: 0,
+        closed: true,
+    };
+    let expected = [
+        Expected {
+            lemma: 0,
+            place: 0,
+            line: 0,
+            reversed: false,
+            position: b"",
+            term: "y ◇ x",
+        },
+        Expected {
+            lemma: 1,
+            place: 0,
+            line: 1,
+            reversed: false,
+            position: b"l",
+            term: "(y ◇ x) ◇ z",
+        },
+        Expected {
+            lemma: 1,
+            place: 1,
+            line: 0,
+            reversed: true,
+            position: b"",
+            term: "z ◇ (y ◇ x)",
+        },
+    ];
+    match read(rt.alloc(), &case).expect(&rt, "memory") {
+        Ok(Body::Proof(proof)) => {
+            assert!(rt; is_two_lemmas(&proof));
+            for step in &expected {
+                assert!(rt; stands(rt.alloc(), &proof, step).expect(&rt, "memory"));
+            }
+        }
+        Err(_) => assert!(rt; false),
     }
 }

@@ -3,6 +3,8 @@ use Rattle.etp_items.proofs.OneBody.{one_body}
 use Rattle.etp_items.proofs.OneRefusal.{body_stands, one_refusal}
 use Rattle.etp_items.proofs.WrittenReads.{written_body_reads}
 use Rattle.etp_items.proofs.Writable.{body_writable}
+use Rattle.etp_items.proofs.ReadAgain.{written_body_read_again}
+use Rattle.etp_items.proofs.ShortLines.{valid_body_short}
 use Rattle.etp_items.proofs.body_laws.Goals as goal
 
 pub returns : goal.returns
@@ -14,4 +16,6 @@ returns c = record {
   one_refusal = one_refusal;
   body_writable = body_writable;
   written_body_reads = written_body_reads;
+  written_body_read_again = written_body_read_again;
+  valid_body_short = valid_body_short;
 }
