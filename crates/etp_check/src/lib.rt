@@ -5,9 +5,11 @@ ghost use Rattle.etp_check.specs.Theorems.{CheckLaws};
 
 mod checking;
 mod refusal;
+mod written;
 
 pub use checking::check;
 pub use refusal::CheckRefusal;
+pub use written::written_laws;
 
 /// A body is valid, or it has one first offence.
 pub fn check_laws()
