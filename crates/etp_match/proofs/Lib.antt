@@ -1,2 +1,4 @@
-pub mod Fitting
+pub mod Extending
 pub mod Misfits
+pub mod Same
+pub mod Tables

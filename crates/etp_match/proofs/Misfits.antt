@@ -1,126 +1,13 @@
--- A match extends the substitution as the pattern asks, and where there is none the first misfit is found.
-use Rattle.std.proofs.Common.{◌≡◌, ◌≢◌, ℕ, inl, inr, Bool, true, false, cond, eqb, List, [], ◌∷◌, ◌++◌, Option, Some, None, refl, sym, ap, ap₂, ◌∙◌, subst, eqb-true, eq-eqb}
-use Rattle.std.proofs.lemmas.Bool.{ne_eqb}
+-- Where a pattern first doesn't match.
+use Rattle.std.proofs.Common.{◌≡◌, ℕ, ◌⊎◌, inl, inr, Bool, true, false, cond, eqb, List, [], ◌∷◌, ◌++◌, Option, Some, None, refl, sym, ap, ap₂, ◌∙◌, subst, eqb-true, eq-eqb}
 use Rattle.etp_theory.specs.Trees.{Tree, var, op, Occurs}
 use Rattle.etp_theory.specs.Substitutions.{apply, Partial, total, value_or}
 use Rattle.etp_theory.specs.Positions.{Side, to_left, to_right, sub_at}
-use Rattle.etp_theory.specs.Strategy.{same, first_some}
 use Rattle.etp_theory.proofs.Trees.{sub_at_applied}
-use Rattle.etp_theory.proofs.Matching.{same_eq, same_refl, apply_agree}
-use Rattle.etp_match.specs.Bindings.{value_of, map_of}
-use Rattle.etp_match.specs.Fitting.{Fit, fitted, unfit, fit_value, under, and_then, fit}
-use Rattle.etp_match.specs.Matching.{Extends, IsExtendedTo, Before, MisfitAt, operation, valued, repeated, IsFirstMisfit}
-
--- the values after one more entry
-value_end : (es : List (ℕ × Tree)) (v w : ℕ) (t : Tree) → value_of (es ++ (v, t) ∷ []) w ≡ first_some (value_of es w) (cond (eqb v w) (Some t) None)
-value_end [] v w t = refl
-value_end (e ∷ es) v w t = go (eqb e.0 w) (value_end es v w t)
-  where
-    go : (b : Bool) → value_of (es ++ (v, t) ∷ []) w ≡ first_some (value_of es w) (cond (eqb v w) (Some t) None) → cond b (Some e.1) (value_of (es ++ (v, t) ∷ []) w) ≡ first_some (cond b (Some e.1) (value_of es w)) (cond (eqb v w) (Some t) None)
-    go true k = refl
-    go false k = k
-
-first_kept : (a b : Option Tree) (u : Tree) → a ≡ Some u → first_some a b ≡ Some u
-first_kept None b u h = absurd (cc)
-first_kept (Some x) b u h = h
-
-first_none : (a : Option Tree) → first_some a None ≡ a
-first_none None = refl
-first_none (Some x) = refl
-
-fitted_is : {a b : List (ℕ × Tree)} → fitted a ≡ fitted b → a ≡ b
-fitted_is h = cc
-
--- one more entry, at a variable that had no value
-entry_extends : (es : List (ℕ × Tree)) (v : ℕ) (t : Tree) → value_of es v ≡ None → IsExtendedTo (var v) t (map_of es) (map_of (es ++ (v, t) ∷ []))
-entry_extends es v t h =
-    let here : value_of (es ++ (v, t) ∷ []) v ≡ Some t =
-    value_end es v v t ∙ ap₂ first_some h (ap (λ b. cond b (Some t) None) (eq-eqb v v refl)) in
-    record {
-      kept = λ w u k. value_end es v w t ∙ first_kept (value_of es w) (cond (eqb v w) (Some t) None) u k;
-      given = λ w o. (t, subst (λ x. value_of (es ++ (v, t) ∷ []) x ≡ Some t) o here);
-      others = λ w o. value_end es v w t ∙ ap (λ b. first_some (value_of es w) (cond b (Some t) None)) (ne_eqb v w o) ∙ first_none (value_of es w);
-      matched = ap (λ z. value_or z (var v)) here;
-    }
-
-value_extends : (es : List (ℕ × Tree)) (v : ℕ) (t u : Tree) → value_of es v ≡ Some u → u ≡ t → IsExtendedTo (var v) t (map_of es) (map_of es)
-value_extends es v t u h k = record {
-  kept = λ w x q. q;
-  given = λ w o. (u, subst (λ x. value_of es x ≡ Some u) o h);
-  others = λ w o. refl;
-  matched = ap (λ z. value_or z (var v)) h ∙ k;
-}
-
-both_extend : (es middle later : List (ℕ × Tree)) (a b c d : Tree) → IsExtendedTo a c (map_of es) (map_of middle) → IsExtendedTo b d (map_of middle) (map_of later) → IsExtendedTo (op a b) (op c d) (map_of es) (map_of later)
-both_extend es middle later a b c d x y = record {
-  kept = λ v t h. y.kept v t (x.kept v t h);
-  given = λ v o. elim o [ inl p ↦ let g = x.given v p in (g.0, y.kept v g.0 g.1) | inr p ↦ y.given v p ];
-  others = λ v o. y.others v (λ p. o (inr p)) ∙ x.others v (λ p. o (inl p));
-  matched = ap₂ op (apply_agree (total (map_of later)) (total (map_of middle)) a (λ v o. let g = x.given v o in ap (λ z. value_or z (var v)) (y.kept v g.0 g.1 ∙ sym g.1)) ∙ x.matched) y.matched;
-}
-
-pub fit_extends : (es : List (ℕ × Tree)) (p t : Tree) (later : List (ℕ × Tree)) → fit es p t ≡ fitted later → IsExtendedTo p t (map_of es) (map_of later)
-fit_extends es (var v) t later h = go (value_of es v) refl h
-  where
-    test : (u : Tree) → value_of es v ≡ Some u → (b : Bool) → same u t ≡ b → cond b (fitted es) (unfit []) ≡ fitted later → IsExtendedTo (var v) t (map_of es) (map_of later)
-    test u q true e k = subst (λ (x : List (ℕ × Tree)). IsExtendedTo (var v) t (map_of es) (map_of x)) (fitted_is k) (value_extends es v t u q (same_eq u t e))
-    test u q false e k = absurd (cc)
-
-    go : (o : Option Tree) → value_of es v ≡ o → fit_value es v t o ≡ fitted later → IsExtendedTo (var v) t (map_of es) (map_of later)
-    go None q k = subst (λ (x : List (ℕ × Tree)). IsExtendedTo (var v) t (map_of es) (map_of x)) (fitted_is k) (entry_extends es v t q)
-    go (Some u) q k = test u q (same u t) refl k
-fit_extends es (op a b) (var x) later h = absurd (cc)
-fit_extends es (op a b) (op c d) later h = go (fit es a c) refl h (fit_extends es a c) (λ m. fit_extends m b d later)
-  where
-    right : (m : List (ℕ × Tree)) (f : Fit) → fit m b d ≡ f → under to_right f ≡ fitted later → (fit m b d ≡ fitted later → IsExtendedTo b d (map_of m) (map_of later)) → IsExtendedTo b d (map_of m) (map_of later)
-    right m (fitted s) q k i = i (q ∙ k)
-    right m (unfit r) q k i = absurd (cc)
-
-    go : (f : Fit) → fit es a c ≡ f → and_then (under to_left f) (λ m. under to_right (fit m b d)) ≡ fitted later → ((m : List (ℕ × Tree)) → fit es a c ≡ fitted m → IsExtendedTo a c (map_of es) (map_of m)) → ((m : List (ℕ × Tree)) → fit m b d ≡ fitted later → IsExtendedTo b d (map_of m) (map_of later)) → IsExtendedTo (op a b) (op c d) (map_of es) (map_of later)
-    go (fitted m) q k i j = both_extend es m later a b c d (i m q) (right m (fit m b d) refl k (j m))
-    go (unfit r) q k i j = absurd (cc)
-
--- a value of the later entries is an earlier one, or stands where the pattern has the variable
-pub data Origin (es : List (ℕ × Tree)) (p t : Tree) (v : ℕ) (u : Tree) : Type 0 where
-  earlier : value_of es v ≡ Some u → Origin es p t v u
-  placed : (q : List Side) → sub_at q p ≡ Some (var v) → sub_at q t ≡ Some u → Origin es p t v u
-
-entry_origin : (es : List (ℕ × Tree)) (v : ℕ) (t : Tree) → value_of es v ≡ None → (w : ℕ) (u : Tree) → value_of (es ++ (v, t) ∷ []) w ≡ Some u → Origin es (var v) t w u
-entry_origin es v t h w u k = go (value_of es w) refl (eqb v w) refl (sym (value_end es v w t) ∙ k)
-  where
-    go : (o : Option Tree) → value_of es w ≡ o → (b : Bool) → eqb v w ≡ b → first_some o (cond b (Some t) None) ≡ Some u → Origin es (var v) t w u
-    go (Some x) q b e r = earlier (q ∙ r)
-    go None q true e r = placed [] (ap (λ x. Some (var x)) (eqb-true v w e)) r
-    go None q false e r = absurd (cc)
-
-pub fit_origin : (es : List (ℕ × Tree)) (p t : Tree) (later : List (ℕ × Tree)) → fit es p t ≡ fitted later → (w : ℕ) (u : Tree) → value_of later w ≡ Some u → Origin es p t w u
-fit_origin es (var v) t later h w u k = go (value_of es v) refl h
-  where
-    test : (x : Tree) → (b : Bool) → cond b (fitted es) (unfit []) ≡ fitted later → Origin es (var v) t w u
-    test x true q = earlier (ap (λ (s : List (ℕ × Tree)). value_of s w) (fitted_is q) ∙ k)
-    test x false q = absurd (cc)
-
-    go : (o : Option Tree) → value_of es v ≡ o → fit_value es v t o ≡ fitted later → Origin es (var v) t w u
-    go None q r = entry_origin es v t q w u (ap (λ (s : List (ℕ × Tree)). value_of s w) (fitted_is r) ∙ k)
-    go (Some x) q r = test x (same x t) r
-fit_origin es (op a b) (var x) later h w u k = absurd (cc)
-fit_origin es (op a b) (op c d) later h w u k = go (fit es a c) refl h (fit_origin es a c) (λ m. fit_origin m b d later)
-  where
-    at_left : Origin es a c w u → Origin es (op a b) (op c d) w u
-    at_left (earlier q) = earlier q
-    at_left (placed q x y) = placed (to_left ∷ q) x y
-
-    at_right : (m : List (ℕ × Tree)) → (value_of m w ≡ Some u → Origin es a c w u) → Origin m b d w u → Origin es (op a b) (op c d) w u
-    at_right m i (earlier q) = at_left (i q)
-    at_right m i (placed q x y) = placed (to_right ∷ q) x y
-
-    right : (m : List (ℕ × Tree)) (f : Fit) → fit m b d ≡ f → under to_right f ≡ fitted later → (fit m b d ≡ fitted later → (v : ℕ) (x : Tree) → value_of later v ≡ Some x → Origin m b d v x) → Origin m b d w u
-    right m (fitted s) q r i = i (q ∙ r) w u k
-    right m (unfit p) q r i = absurd (cc)
-
-    go : (f : Fit) → fit es a c ≡ f → and_then (under to_left f) (λ m. under to_right (fit m b d)) ≡ fitted later → ((m : List (ℕ × Tree)) → fit es a c ≡ fitted m → (v : ℕ) (x : Tree) → value_of m v ≡ Some x → Origin es a c v x) → ((m : List (ℕ × Tree)) → fit m b d ≡ fitted later → (v : ℕ) (x : Tree) → value_of later v ≡ Some x → Origin m b d v x) → Origin es (op a b) (op c d) w u
-    go (fitted m) q r i j = at_right m (i m q w u) (right m (fit m b d) refl r (j m))
-    go (unfit p) q r i j = absurd (cc)
+use Rattle.etp_term.specs.Sides.{side_of, position_of}
+use Rattle.etp_term.specs.declared.position.Side as Program
+use Rattle.etp_match.specs.Matching.{Extends, NoneMatches, IsExtendedTo, Before, MisfitAt, operation, valued, repeated, IsFirstMisfit}
+use Rattle.etp_match.proofs.Extending.{occurs_or_not, later_extends, still_matches}
 
 some_is : {a b : Tree} → Some a ≡ Some b → a ≡ b
 some_is h = cc
@@ -134,14 +21,8 @@ no_misfit e p t m x h q (valued v s u y z k n) =
 no_misfit e p t m x h q (repeated r v s u b y z y' z' n) =
     n (some_is (sym z' ∙ ap (sub_at r) (sym h) ∙ sub_at_applied r m p (var v) y' ∙ sym (sub_at_applied q m p (var v) y) ∙ ap (sub_at q) h ∙ z))
 
--- the later map itself is such a substitution
-pub later_extends : (p t : Tree) (e l : Partial) → IsExtendedTo p t e l → Extends e (total l)
-later_extends p t e l x v u h = ap (λ z. value_or z (var v)) (x.kept v u h)
-
-pub fit_clear : (es : List (ℕ × Tree)) (p t : Tree) (later : List (ℕ × Tree)) → fit es p t ≡ fitted later → (q : List Side) → MisfitAt (map_of es) p t q → ⊥
-fit_clear es p t later h =
-    let x = fit_extends es p t later h in
-    no_misfit (map_of es) p t (total (map_of later)) (later_extends p t (map_of es) (map_of later) x) x.matched
+pub matched_clear : (e l : Partial) (p t : Tree) → IsExtendedTo p t e l → (q : List Side) → MisfitAt e p t q → ⊥
+matched_clear e l p t x = no_misfit e p t (total l) (later_extends p t e l x) x.matched
 
 root_clear : (e : Partial) (a b c d : Tree) → MisfitAt e (op a b) (op c d) [] → ⊥
 root_clear e a b c d (operation x y v h k) = absurd (cc)
@@ -161,9 +42,6 @@ inside_left e a b c d q (repeated [] v t u i h k y z n) = absurd (cc)
 inside_left e a b c d q (repeated (to_left ∷ r) v t u i h k y z n) = repeated r v t u i h k y z n
 inside_left e a b c d q (repeated (to_right ∷ r) v t u i h k y z n) = absurd i
 
-unfit_is : {a b : List Side} → unfit a ≡ unfit b → a ≡ b
-unfit_is h = cc
-
 occurs_at : (q : List Side) (p : Tree) (v : ℕ) → sub_at q p ≡ Some (var v) → Occurs v p
 occurs_at [] (var x) v h = let k : var x ≡ var v = some_is h in cc
 occurs_at [] (op a b) v h = absurd (cc)
@@ -178,66 +56,112 @@ value_at {l = l} {p = p} {t = t} x q v u h k =
     let g = x.given v (occurs_at q p v h) in
     g.1 ∙ sym (sym k ∙ ap (sub_at q) (sym x.matched) ∙ sub_at_applied q (total l) p (var v) h ∙ ap (λ z. Some (value_or z (var v))) g.1)
 
-module _ (es m : List (ℕ × Tree)) (a b c d : Tree) (left : fit es a c ≡ fitted m) where
-  right_misfit : (q : List Side) → MisfitAt (map_of m) b d q → MisfitAt (map_of es) (op a b) (op c d) (to_right ∷ q)
+-- where a variable stands
+place_of : (v : ℕ) (p : Tree) → Occurs v p → (q : List Side) × (sub_at q p ≡ Some (var v))
+place_of v (var x) o = ([], ap (λ w. Some (var w)) o)
+place_of v (op a b) (inl o) = let r = place_of v a o in (to_left ∷ r.0, r.1)
+place_of v (op a b) (inr o) = let r = place_of v b o in (to_right ∷ r.0, r.1)
+
+-- a later value is an earlier one, or stands where the pattern has the variable
+data Origin (e : Partial) (p t : Tree) (v : ℕ) (u : Tree) : Type 0 where
+  earlier : e.value v ≡ Some u → Origin e p t v u
+  placed : (q : List Side) → sub_at q p ≡ Some (var v) → sub_at q t ≡ Some u → Origin e p t v u
+
+origin_of : (p t : Tree) (e l : Partial) → IsExtendedTo p t e l → (v : ℕ) (u : Tree) → l.value v ≡ Some u → Origin e p t v u
+origin_of p t e l x v u h = go (occurs_or_not v p)
+  where
+    go : Occurs v p ⊎ (Occurs v p → ⊥) → Origin e p t v u
+    go (inl o) =
+        let r = place_of v p o in
+        placed r.0 r.1 (ap (sub_at r.0) (sym x.matched) ∙ sub_at_applied r.0 (total l) p (var v) r.1 ∙ ap (λ z. Some (value_or z (var v))) h)
+    go (inr o) = earlier (sym (x.others v o) ∙ h)
+
+module _ (e l : Partial) (a b c d : Tree) (left : IsExtendedTo a c e l) where
+  right_misfit : (q : List Side) → MisfitAt l b d q → MisfitAt e (op a b) (op c d) (to_right ∷ q)
   right_misfit q (operation x y v h k) = operation x y v h k
-  right_misfit q (valued v t u h k l n) = go (fit_origin es a c m left v u l)
+  right_misfit q (valued v t u h k i n) = go (origin_of a c e l left v u i)
     where
-      go : Origin es a c v u → MisfitAt (map_of es) (op a b) (op c d) (to_right ∷ q)
+      go : Origin e a c v u → MisfitAt e (op a b) (op c d) (to_right ∷ q)
       go (earlier x) = valued v t u h k x n
       go (placed r x y) = repeated (to_left ∷ r) v t u tt h k x y n
   right_misfit q (repeated r v t u i h k y z n) = repeated (to_right ∷ r) v t u i h k y z n
 
-  inside_right : (q : List Side) → MisfitAt (map_of es) (op a b) (op c d) (to_right ∷ q) → MisfitAt (map_of m) b d q
+  inside_right : (q : List Side) → MisfitAt e (op a b) (op c d) (to_right ∷ q) → MisfitAt l b d q
   inside_right q (operation x y v h k) = operation x y v h k
-  inside_right q (valued v t u h k l n) = valued v t u h k ((fit_extends es a c m left).kept v u l) n
+  inside_right q (valued v t u h k i n) = valued v t u h k (left.kept v u i) n
   inside_right q (repeated [] v t u i h k y z n) = absurd (cc)
   inside_right q (repeated (to_right ∷ r) v t u i h k y z n) = repeated r v t u i h k y z n
-  inside_right q (repeated (to_left ∷ r) v t u i h k y z n) = valued v t u h k (value_at (fit_extends es a c m left) r v u y z) n
+  inside_right q (repeated (to_left ∷ r) v t u i h k y z n) = valued v t u h k (value_at left r v u y z) n
 
-pub first_misfit : (es : List (ℕ × Tree)) (p t : Tree) (q : List Side) → fit es p t ≡ unfit q → IsFirstMisfit (map_of es) p t q
-first_misfit es (var v) t q h = go (value_of es v) refl h
+-- in the left part, where that doesn't match
+first_left : (e : Partial) (a b c d : Tree) (q : List Side) → IsFirstMisfit e a c q → IsFirstMisfit e (op a b) (op c d) (to_left ∷ q)
+first_left e a b c d q x = record { here = left_misfit e a b c d q x.here; first = before }
   where
-    none_before : (r : List Side) → Before r [] → MisfitAt (map_of es) (var v) t r → ⊥
-    none_before r b x = b
+    before : (s : List Side) → Before s (to_left ∷ q) → MisfitAt e (op a b) (op c d) s → ⊥
+    before [] k y = root_clear e a b c d y
+    before (to_left ∷ s) k y = x.first s k (inside_left e a b c d s y)
+    before (to_right ∷ s) k y = k
 
-    test : (u : Tree) → value_of es v ≡ Some u → (b : Bool) → same u t ≡ b → cond b (fitted es) (unfit []) ≡ unfit q → IsFirstMisfit (map_of es) (var v) t q
-    test u k true e r = absurd (cc)
-    test u k false e r =
-        let apart : u ≢ t = (λ w. let z = subst (λ x. same u x ≡ true) w (same_refl u) in cc) in
-        subst (IsFirstMisfit (map_of es) (var v) t) (unfit_is r) (record { here = valued v t u refl refl k apart; first = none_before })
-
-    go : (o : Option Tree) → value_of es v ≡ o → fit_value es v t o ≡ unfit q → IsFirstMisfit (map_of es) (var v) t q
-    go None k r = absurd (cc)
-    go (Some u) k r = test u k (same u t) refl r
-first_misfit es (op a b) (var x) q h =
-    subst (IsFirstMisfit (map_of es) (op a b) (var x)) (unfit_is h) (record { here = operation a b x refl refl; first = λ r k y. k })
-first_misfit es (op a b) (op c d) q h = go (fit es a c) refl h (first_misfit es a c) (λ m. first_misfit m b d)
+-- else in the right part, with the values that the left part gives
+first_right : (e l : Partial) (a b c d : Tree) (q : List Side) → IsExtendedTo a c e l → IsFirstMisfit l b d q → IsFirstMisfit e (op a b) (op c d) (to_right ∷ q)
+first_right e l a b c d q left x = record { here = right_misfit e l a b c d left q x.here; first = before }
   where
-    at_left : (r : List Side) → IsFirstMisfit (map_of es) a c r → IsFirstMisfit (map_of es) (op a b) (op c d) (to_left ∷ r)
-    at_left r x = record { here = left_misfit (map_of es) a b c d r x.here; first = before }
-      where
-        before : (s : List Side) → Before s (to_left ∷ r) → MisfitAt (map_of es) (op a b) (op c d) s → ⊥
-        before [] k y = root_clear (map_of es) a b c d y
-        before (to_left ∷ s) k y = x.first s k (inside_left (map_of es) a b c d s y)
-        before (to_right ∷ s) k y = k
+    before : (s : List Side) → Before s (to_right ∷ q) → MisfitAt e (op a b) (op c d) s → ⊥
+    before [] k y = root_clear e a b c d y
+    before (to_left ∷ s) k y = matched_clear e l a c left s (inside_left e a b c d s y)
+    before (to_right ∷ s) k y = x.first s k (inside_right e l a b c d left s y)
 
-    at_right : (m : List (ℕ × Tree)) → fit es a c ≡ fitted m → (r : List Side) → IsFirstMisfit (map_of m) b d r → IsFirstMisfit (map_of es) (op a b) (op c d) (to_right ∷ r)
-    at_right m e r x = record { here = right_misfit es m a b c d e r x.here; first = before }
-      where
-        before : (s : List Side) → Before s (to_right ∷ r) → MisfitAt (map_of es) (op a b) (op c d) s → ⊥
-        before [] k y = root_clear (map_of es) a b c d y
-        before (to_left ∷ s) k y = fit_clear es a c m e s (inside_left (map_of es) a b c d s y)
-        before (to_right ∷ s) k y = x.first s k (inside_right es m a b c d e s y)
+module _ (e : Partial) (s t a b c d : Tree) (here : s ≡ op a b) (there : t ≡ op c d) where
+  pub down_left : (q : List Side) → IsFirstMisfit e a c q → IsFirstMisfit e s t (to_left ∷ q)
+  down_left q x =
+      subst (λ z. IsFirstMisfit e z t (to_left ∷ q)) (sym here) (subst (λ z. IsFirstMisfit e (op a b) z (to_left ∷ q)) (sym there) (first_left e a b c d q x))
 
-    right : (m : List (ℕ × Tree)) → fit es a c ≡ fitted m → (f : Fit) → fit m b d ≡ f → under to_right f ≡ unfit q → ((r : List Side) → fit m b d ≡ unfit r → IsFirstMisfit (map_of m) b d r) → IsFirstMisfit (map_of es) (op a b) (op c d) q
-    right m e (fitted s) k r i = absurd (cc)
-    right m e (unfit s) k r i = subst (IsFirstMisfit (map_of es) (op a b) (op c d)) (unfit_is r) (at_right m e s (i s k))
+  pub down_right : (l : Partial) (q : List Side) → IsExtendedTo a c e l → IsFirstMisfit l b d q → IsFirstMisfit e s t (to_right ∷ q)
+  down_right l q left x =
+      subst (λ z. IsFirstMisfit e z t (to_right ∷ q)) (sym here) (subst (λ z. IsFirstMisfit e (op a b) z (to_right ∷ q)) (sym there) (first_right e l a b c d q left x))
 
-    go : (f : Fit) → fit es a c ≡ f → and_then (under to_left f) (λ m. under to_right (fit m b d)) ≡ unfit q → ((r : List Side) → fit es a c ≡ unfit r → IsFirstMisfit (map_of es) a c r) → ((m : List (ℕ × Tree)) (r : List Side) → fit m b d ≡ unfit r → IsFirstMisfit (map_of m) b d r) → IsFirstMisfit (map_of es) (op a b) (op c d) q
-    go (fitted m) k r i j = right m k (fit m b d) refl r (j m)
-    go (unfit s) k r i j = subst (IsFirstMisfit (map_of es) (op a b) (op c d)) (unfit_is r) (at_left s (i s k))
+  -- where the whole doesn't match and the left part does, the right part doesn't
+  pub none_after : (l : Partial) → NoneMatches s t e → IsExtendedTo a c e l → NoneMatches b d l
+  none_after l n left m x h =
+      n m (λ v u k. x v u (left.kept v u k)) (ap (apply m) here ∙ ap₂ op (still_matches a c e l left m x) h ∙ sym there)
 
--- so no substitution with these values takes the pattern to the term
-pub none_fits : (es : List (ℕ × Tree)) (p t : Tree) (q : List Side) → fit es p t ≡ unfit q → (m : ℕ → Tree) → Extends (map_of es) m → apply m p ≡ t → ⊥
-none_fits es p t q h m x k = no_misfit (map_of es) p t m x k q (first_misfit es p t q h).here
+none_before : (q : List Side) → Before q [] → ⊥
+none_before q b = b
+
+pub first_operation : (e : Partial) (s t a b : Tree) (v : ℕ) → s ≡ op a b → t ≡ var v → IsFirstMisfit e s t []
+first_operation e s t a b v h k = record { here = operation a b v (ap Some h) (ap Some k); first = λ q x y. none_before q x }
+
+-- the map with one more value
+with_value : Partial → ℕ → Tree → ℕ → Tree
+with_value e v t w = cond (eqb v w) t (total e w)
+
+with_extends : (e : Partial) (v : ℕ) (t : Tree) → e.value v ≡ None → Extends e (with_value e v t)
+unfolding with_value
+with_extends e v t h w u k = go (eqb v w) refl
+  where
+    go : (b : Bool) → eqb v w ≡ b → cond b t (total e w) ≡ u
+    go true q = let f : None ≡ Some u = sym h ∙ ap e.value (eqb-true v w q) ∙ k in absurd (cc)
+    go false q = ap (λ z. value_or z (var w)) k
+
+with_here : (e : Partial) (v : ℕ) (t : Tree) → with_value e v t v ≡ t
+unfolding with_value
+with_here e v t = ap (λ b. cond b t (total e v)) (eq-eqb v v refl)
+
+-- a variable that doesn't match has another value
+pub first_value : (e : Partial) (s t : Tree) (v : ℕ) → s ≡ var v → NoneMatches s t e → IsFirstMisfit e s t []
+first_value e s t v h n = go (e.value v) refl
+  where
+    go : (o : Option Tree) → e.value v ≡ o → IsFirstMisfit e s t []
+    go None k = absurd (n (with_value e v t) (with_extends e v t k) (ap (apply (with_value e v t)) h ∙ with_here e v t))
+    go (Some u) k = record {
+      here = valued v t u (ap Some h) refl k (λ q. n (total e) (λ w x y. ap (λ z. value_or z (var w)) y) (ap (apply (total e)) h ∙ ap (λ z. value_or z (var v)) k ∙ q));
+      first = λ q x y. none_before q x;
+    }
+
+-- a position that goes one side further down
+pub further : (xs ys : List Program.Side) (d : Program.Side) (q : List Side) → ys ≡ xs ++ d ∷ [] → position_of xs ++ side_of d ∷ q ≡ position_of ys ++ q
+further xs ys d q h = go xs ∙ ap (λ (zs : List Program.Side). position_of zs ++ q) (sym h)
+  where
+    go : (zs : List Program.Side) → position_of zs ++ side_of d ∷ q ≡ position_of (zs ++ d ∷ []) ++ q
+    go [] = refl
+    go (z ∷ zs) = ap (λ r. side_of z ∷ r) (go zs)

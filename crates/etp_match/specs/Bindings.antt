@@ -35,3 +35,7 @@ map_of es = record { value = value_of es; bound = end_of es; absent = past_end e
 
 abbrev pub partial_of : List Binding → Partial
 partial_of bindings = map_of (map entry_of bindings)
+
+-- each variable has the same value in both, or none in either
+abbrev pub HaveSameValues : List Binding → List Binding → Type 0
+HaveSameValues xs ys = (v : ℕ) → (partial_of xs).value v ≡ (partial_of ys).value v

@@ -1,4 +1,4 @@
 pub mod Bindings
+pub mod Indexes
 pub mod Matching
-pub mod Fitting
 pub mod Replacing

@@ -1,5 +1,5 @@
 -- When a pattern matches a term, and where it first doesn't.
-use Rattle.std.specs.Prelude.{◌≡◌, ◌≢◌, ℕ, List, [], ◌∷◌, Some}
+use Rattle.std.specs.Prelude.{◌≡◌, ◌≢◌, ℕ, List, [], ◌∷◌, ◌++◌, Some}
 use Rattle.etp_theory.specs.Trees.{Tree, var, op, Occurs}
 use Rattle.etp_theory.specs.Substitutions.{apply, Partial, total}
 use Rattle.etp_theory.specs.Positions.{Side, to_left, to_right, sub_at}
@@ -8,10 +8,17 @@ use Rattle.etp_match.specs.Bindings.{partial_of}
 use Rattle.etp_match.specs.declared.subst.Binding.{Binding}
 use Rattle.etp_match.specs.declared.matching.Matched.{Matched}
 use Rattle.etp_match.specs.declared.matching.Matched.TheVariants.{Yes, No}
+use Rattle.etp_match.specs.declared.matching.Outcome.{Outcome}
+use Rattle.etp_match.specs.declared.matching.Outcome.TheVariants.{Fits, Misfit}
 
 -- a substitution with the values of the partial map, and any for the variables without one
 abbrev pub Extends : Partial → (ℕ → Tree) → Type 0
 Extends earlier m = (v : ℕ) (t : Tree) → earlier.value v ≡ Some t → m v ≡ t
+
+-- no substitution with these values takes the pattern to the term
+abbrev pub NoneMatches : Tree → Tree → Partial → Type 0
+NoneMatches pattern term earlier =
+    (m : ℕ → Tree) → Extends earlier m → apply m pattern ≡ term → ⊥
 
 -- the later map has the values of the earlier one and values for exactly the pattern's new
 -- variables, and takes the pattern to the term
@@ -48,7 +55,7 @@ pub record IsFirstMisfit (earlier : Partial) (pattern term : Tree) (p : List Sid
 
 -- no extension takes the pattern to the term: the first misfit is named, and nothing is changed
 pub record IsUnmatched (pattern term : Tree) (earlier later : List Binding) (p : List Side) : Type 0 where
-  pub none : (m : ℕ → Tree) → Extends (partial_of earlier) m → apply m pattern ≡ term → ⊥
+  pub none : NoneMatches pattern term (partial_of earlier)
   pub misfit : IsFirstMisfit (partial_of earlier) pattern term p
   pub unchanged : later ≡ earlier
 
@@ -57,3 +64,11 @@ IsMatched pattern term earlier later Yes =
     IsExtendedTo pattern term (partial_of earlier) (partial_of later)
 IsMatched pattern term earlier later (No position) =
     IsUnmatched pattern term earlier later (position_of position)
+
+-- the values that a match adds, or the first misfit
+abbrev pub IsOutcome : Tree → Tree → List Binding → Outcome → Type 0
+IsOutcome pattern term earlier (Fits values) =
+    IsExtendedTo pattern term (partial_of earlier) (partial_of (earlier ++ values.items))
+IsOutcome pattern term earlier (Misfit position) =
+    NoneMatches pattern term (partial_of earlier)
+    × IsFirstMisfit (partial_of earlier) pattern term (position_of position)

@@ -4,10 +4,12 @@
 mod matching;
 mod replacing;
 mod subst;
+mod table;
 
 pub use matching::{Matched, match_onto};
 pub use replacing::replace_at;
 pub use subst::{Binding, Subst};
+pub use table::Bindings;
 
 #[cfg(test)]
 mod tests;

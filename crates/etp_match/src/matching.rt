@@ -1,12 +1,12 @@
-ghost use Rattle.std.specs.Prelude.{◌≡◌, ◌≤◌, ◌∷◌, IfOk, OnErr, length, map, take, reverse};
+ghost use Rattle.std.specs.Prelude.{◌≡◌, IfOk, OnErr};
 ghost use Rattle.etp_term.specs.Terms.{tree_of};
-ghost use Rattle.etp_match.specs.Bindings.{entry_of, partial_of};
-ghost use Rattle.etp_match.specs.Fitting.{fit, fit_of};
-ghost use Rattle.etp_match.specs.Matching.{IsMatched};
+ghost use Rattle.etp_term.specs.Sides.{position_of};
+ghost use Rattle.etp_match.specs.Bindings.{partial_of};
+ghost use Rattle.etp_match.specs.Matching.{IsMatched, IsOutcome, NoneMatches, IsFirstMisfit};
 
-use crate::subst::Subst;
+use crate::subst::{Binding, Subst};
+use crate::table::Bindings;
 use etp_term::{NoMemory, Position, Side, Term};
-use sqlite_items::Items;
 use std::alloc::{AllocError, Global};
 
 /// Whether some extension of a substitution takes the pattern to the term; where none does, the
@@ -28,79 +28,74 @@ pub fn match_onto(
     ensures ok { IfOk result (λ m. IsMatched (tree_of pattern.now) (tree_of term.now) subst.old subst.new m) }
     ensures err { OnErr result (subst.new ≡ subst.old) }
 {
-    let before = subst.len();
-    let fitted = extend(alloc, pattern, term, subst);
-    match fitted {
-        Ok(None) => Ok(Matched::Yes),
-        Ok(Some(way_back)) => {
-            subst.truncate(before);
-            let position = turned(alloc, way_back)?;
-            Ok(Matched::No { position })
+    match outcome_of(alloc, pattern, term, subst)? {
+        Outcome::Fits { values } => {
+            subst.append(values)?;
+            Ok(Matched::Yes)
         }
-        Err(error) => {
-            subst.truncate(before);
-            Err(error)
-        }
+        Outcome::Misfit { position } => Ok(Matched::No { position }),
     }
 }
 
-/// Gives values to the pattern's new variables up to the first misfit; answers the sides from there
-/// up to the root.
-fn extend(
+/// What a match adds to a substitution, or where there is none.
+#[derive(Drop)]
+enum Outcome {
+    Fits { values: Vec<Binding> },
+    Misfit { position: Position },
+}
+
+fn outcome_of(
     alloc: Global,
     pattern: &Term,
     term: &Term,
-    subst: &mut Subst,
-) -> Result<Option<Items<Side>>, NoMemory>
-    ensures ok { IfOk result (λ o. fit_of subst.new o ≡ fit (map entry_of subst.old) (tree_of pattern.now) (tree_of term.now)) }
-    ensures kept { take (length subst.old) subst.new ≡ subst.old }
-    ensures longer { length subst.old ≤ length subst.new }
+    subst: &Subst,
+) -> Result<Outcome, NoMemory>
+    ensures { IfOk result (λ t. IsOutcome (tree_of pattern.now) (tree_of term.now) subst.now t) }
 {
-    match pattern {
-        Term::Var(v) => match subst.get(*v) {
-            Some(value) => {
-                if value.same_term(term) {
-                    Ok(None)
-                } else {
-                    Ok(Some(Items::new(alloc)))
-                }
-            }
-            None => {
-                subst.bind(*v, term.copy(alloc)?)?;
-                Ok(None)
-            }
-        },
-        Term::Op(a, b) => match term {
-            Term::Var(_) => Ok(Some(Items::new(alloc))),
-            Term::Op(c, d) => match extend(alloc, a.get(), c.get(), subst)? {
-                Some(way_back) => Ok(Some(under(Side::L, way_back)?)),
-                None => match extend(alloc, b.get(), d.get(), subst)? {
-                    Some(way_back) => Ok(Some(under(Side::R, way_back)?)),
-                    None => Ok(None),
-                },
-            },
-        },
+    let mut bindings = Bindings::of(alloc, subst)?;
+    let known = bindings.len();
+    if bindings.matches(pattern, term) {
+        let values = bindings.copied_from(alloc, known)?;
+        return Ok(Outcome::Fits { values });
     }
+    let position = first_misfit(alloc, pattern, term, &mut bindings)?;
+    Ok(Outcome::Misfit { position })
 }
 
-/// One side further up.
-fn under(side: Side, mut way_back: Items<Side>) -> Result<Items<Side>, NoMemory>
-    ensures { IfOk result (λ w. reverse w ≡ side ∷ reverse way_back) }
-{
-    way_back.push(side)?;
-    Ok(way_back)
-}
-
-/// The position to which the sides lead back.
-fn turned(alloc: Global, mut way_back: Items<Side>) -> Result<Position, NoMemory>
-    ensures { IfOk result (λ p. p ≡ reverse way_back) }
+/// The first position at which a pattern that doesn't match is amiss: in the left part where that
+/// doesn't match, else in the right part, down to a variable.
+fn first_misfit<'t>(
+    alloc: Global,
+    pattern: &Term,
+    term: &'t Term,
+    bindings: &mut Bindings<'t>,
+) -> Result<Position, NoMemory>
+    requires { NoneMatches (tree_of pattern.now) (tree_of term.now) (partial_of bindings.old) }
+    ensures { IfOk result (λ p. IsFirstMisfit (partial_of bindings.old) (tree_of pattern.now) (tree_of term.now) (position_of p)) }
 {
     let mut position = Position::root(alloc);
-    while let Some(side) = way_back.pop() {
+    let mut inner = pattern;
+    let mut subterm = term;
+    loop {
+        let Term::Op(a, b) = inner else {
+            return Ok(position);
+        };
+        let Term::Op(c, d) = subterm else {
+            return Ok(position);
+        };
         if position.len() == u32::MAX {
             return Err(AllocError);
         }
-        position.push(side)?;
+        let left = a.get();
+        let there = c.get();
+        if bindings.matches(left, there) {
+            position.push(Side::R)?;
+            inner = b.get();
+            subterm = d.get();
+        } else {
+            position.push(Side::L)?;
+            inner = left;
+            subterm = there;
+        }
     }
-    Ok(position)
 }

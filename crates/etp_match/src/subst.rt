@@ -1,4 +1,4 @@
-ghost use Rattle.std.specs.Prelude.{◌≡◌, ◌≤◌, ◌++◌, ◌∷◌, [], IfOk, OnOk, OnErr, None, length, map, take};
+ghost use Rattle.std.specs.Prelude.{◌≡◌, ◌++◌, ◌∷◌, [], IfOk, OnOk, OnErr, None, map};
 ghost use Rattle.std.specs.Option.{option_copied, option_map};
 ghost use Rattle.etp_theory.specs.Substitutions.{apply, total};
 ghost use Rattle.etp_term.specs.Terms.{tree_of};
@@ -69,11 +69,11 @@ impl Subst {
         }
     }
 
-    /// How many variables have a value.
-    pub(crate) fn len(&self) -> usize
-        ensures { result ≡ length self.now }
+    /// All values, in order.
+    pub(crate) fn as_slice(&self) -> &[Binding]
+        ensures { result.now ≡ self.now }
     {
-        self.bindings.len()
+        self.bindings.as_slice()
     }
 
     /// Gives a value to a variable that has none.
@@ -86,11 +86,14 @@ impl Subst {
         Ok(())
     }
 
-    /// Keeps the first values alone.
-    pub(crate) fn truncate(&mut self, len: usize)
-        ensures { self.new ≡ take len self.old }
+    /// Appends values of further variables.
+    pub(crate) fn append(&mut self, values: Vec<Binding>) -> Result<(), NoMemory>
+        ensures ok { OnOk result (self.new ≡ self.old ++ values.items) }
+        ensures err { OnErr result (self.new ≡ self.old) }
     {
-        self.bindings.truncate(len);
+        let mut values = values;
+        self.bindings.append(&mut values)?;
+        Ok(())
     }
 }
 

@@ -1,4 +1,4 @@
-use crate::{Matched, Subst, match_onto, replace_at};
+use crate::{Bindings, Matched, Subst, match_onto, replace_at};
 use etp_term::{NoMemory, Position, Side, Term};
 use sqlite_items::Boxed;
 use std::alloc::Global;
@@ -35,6 +35,24 @@ fn a_match_is_applied(rt: HostRuntime) {
     assert!(rt; matches!(&matched, Matched::Yes));
     let applied = subst.apply(alloc, &pattern).expect(&rt, "memory");
     assert!(rt; applied.same_term(&term));
+}
+
+#[test]
+fn both_sides_are_matched_with_one_map(rt: HostRuntime) {
+    let alloc = rt.alloc();
+    let product = op(alloc, Term::Var(0), Term::Var(1)).expect(&rt, "memory");
+    let turned = op(alloc, Term::Var(1), Term::Var(0)).expect(&rt, "memory");
+    let term = op(alloc, Term::Var(7), Term::Var(255)).expect(&rt, "memory");
+    let other = op(alloc, Term::Var(255), Term::Var(7)).expect(&rt, "memory");
+    let mut bindings = Bindings::empty(alloc).expect(&rt, "memory");
+    assert!(rt; bindings.matches(&product, &term));
+    assert!(rt; !bindings.matches(&turned, &term));
+    assert!(rt; bindings.matches(&turned, &other));
+    let value = bindings.get(1).expect(&rt, "a value");
+    assert!(rt; value.same_term(&Term::Var(255)));
+    bindings.clear();
+    assert!(rt; bindings.get(1).is_none());
+    assert!(rt; bindings.matches(&turned, &term));
 }
 
 #[test]

@@ -7,7 +7,7 @@ use Rattle.etp_theory.specs.Trees.{Tree, Equation}
 use Rattle.etp_theory.specs.Proofs.{ProofStep, Lemma, last_term, conclusion, conclusions, named_equation, as_read, IsRightStep, AreRightSteps, AreRightLemmas}
 use Rattle.std.proofs.lemmas.List.{take-map}
 use Rattle.etp_term.specs.Terms.{tree_of}
-use Rattle.etp_match.proofs.Fitting.{map_end}
+use Rattle.etp_match.proofs.Extending.{map_after}
 use Rattle.etp_replay.specs.Lemmas.{step_of, lemma_of}
 use Rattle.etp_replay.specs.declared.proof.Step.{Step}
 use Rattle.etp_replay.specs.declared.proof.Lemma as Program
@@ -32,7 +32,7 @@ module _ (h : Equation) (cites : List Equation) where
 
 pub taken : {A B : Type 0} (f : A → B) (xs : List A) (i : ℕ) (x : A) → i < length xs → x ≡ get_or xs i x → map f (take (i + 1) xs) ≡ map f (take i xs) ++ f x ∷ []
 taken f xs i x h e =
-    ap (λ (n : ℕ). map f (take n xs)) (add-one i) ∙ ap (map f) (take-suc xs i x h) ∙ map_end f (take i xs) (get_or xs i x) ∙ ap (λ y. map f (take i xs) ++ f y ∷ []) (sym e)
+    ap (λ (n : ℕ). map f (take n xs)) (add-one i) ∙ ap (map f) (take-suc xs i x h) ∙ map_after f (take i xs) (get_or xs i x ∷ []) ∙ ap (λ y. map f (take i xs) ++ f y ∷ []) (sym e)
 
 pub stands_at : {A B : Type 0} (f : A → B) (xs : List A) (i : ℕ) (x : A) → i < length xs → x ≡ get_or xs i x → slice_get (map f xs) i ≡ Some (f x)
 stands_at f xs i x h e = slice_get-map f xs i ∙ ap (option_map f) (slice_get-get_or xs i x h ∙ ap Some (sym e))

@@ -1,7 +1,6 @@
 pub mod Extending
 pub mod Outside
 pub mod Growing
-pub mod Tables
 pub mod Naming
 pub mod Goals
 pub mod Judged

@@ -1,4 +1,3 @@
-pub mod Values
 pub mod Steps
 pub mod Lemmas
 pub mod Growing

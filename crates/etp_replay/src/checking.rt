@@ -1,17 +1,14 @@
-ghost use Rattle.std.specs.Prelude.{◌≡◌, ◌↔◌, ℕ, IsTrue, IsSome, IfOk, EachIndex, Some, None, false, length, slice_get};
-ghost use Rattle.etp_theory.specs.Trees.{Tree};
-ghost use Rattle.etp_theory.specs.Substitutions.{apply};
+ghost use Rattle.std.specs.Prelude.{◌≡◌, ◌↔◌, IsTrue, IsSome, IfOk};
 ghost use Rattle.etp_theory.specs.Positions.{sub_at};
 ghost use Rattle.etp_theory.specs.Proofs.{AgreeOutside, as_read};
 ghost use Rattle.etp_term.specs.Terms.{tree_of};
 ghost use Rattle.etp_term.specs.Laws.{equation_of};
 ghost use Rattle.etp_term.specs.Sides.{position_of};
-ghost use Rattle.etp_match.specs.Matching.{Extends, IsExtendedTo};
 ghost use Rattle.etp_replay.specs.Lines.{sides_of};
-ghost use Rattle.etp_replay.specs.Values.{values_of};
 ghost use Rattle.etp_replay.specs.Steps.{IsStepCheck};
 
 use crate::proof::Step;
+use etp_match::Bindings;
 use etp_term::{Law, NoMemory, Side, Term};
 use std::alloc::Global;
 
@@ -68,20 +65,18 @@ pub fn check_step<'p>(
 ) -> Result<StepCheck, NoMemory>
     ensures { IfOk result (λ c. IsStepCheck (as_read step.now.reversed (equation_of equation.now)) (position_of step.now.position) (tree_of from.now) (tree_of step.now.to) c) }
 {
-    let mut values = vec![in alloc; None; 256]?;
+    let mut bindings = Bindings::empty(alloc)?;
     let sides = Sides::of(equation).read_as(step.reversed);
-    Ok(test_step(sides, from, step, &mut values))
+    Ok(test_step(sides, from, step, &mut bindings))
 }
 
-/// Whether the step is right by the equation as it reads it. `values` is room for the values of all
-/// variables.
+/// Whether the step is right by the equation as it reads it. What is bound before doesn't count.
 pub(crate) fn test_step<'p>(
     sides: Sides,
     from: &'p Term,
     step: &'p Step,
-    values: &mut [Option<&'p Term>],
+    bindings: &mut Bindings<'p>,
 ) -> StepCheck
-    requires { length values.old ≡ 256 }
     ensures { IsStepCheck (sides_of sides.entry) (position_of step.now.position) (tree_of from.now) (tree_of step.now.to) result }
 {
     match (from.at(&step.position), step.to.at(&step.position)) {
@@ -89,50 +84,16 @@ pub(crate) fn test_step<'p>(
             if !agree_outside(from, &step.to, step.position.as_slice()) {
                 return StepCheck::OutsideChanged;
             }
-            forget(values);
-            if !fits(sides.left, before, values) {
+            bindings.clear();
+            if !bindings.matches(sides.left, before) {
                 return StepCheck::NoMatch;
             }
-            if !fits(sides.right, after, values) {
+            if !bindings.matches(sides.right, after) {
                 return StepCheck::NoMatch;
             }
             StepCheck::Right
         }
         _ => StepCheck::NoPlace,
-    }
-}
-
-/// No variable has a value.
-fn forget(values: &mut [Option<&Term>])
-    ensures { EachIndex values.new (λ k. slice_get values.new k ≡ Some None) }
-{
-    for value in values.iter_mut() {
-        *value = None;
-    }
-}
-
-/// Whether the pattern, with the values that are known, matches the term; the values of its new
-/// variables are then known too.
-fn fits<'a>(pattern: &Term, term: &'a Term, values: &mut [Option<&'a Term>]) -> bool
-    requires { length values.old ≡ 256 }
-    ensures yes { IsTrue result → IsExtendedTo (tree_of pattern.now) (tree_of term.now) (values_of values.old) (values_of values.new) }
-    ensures no { result ≡ false → (m : ℕ → Tree) → Extends (values_of values.old) m → apply m (tree_of pattern.now) ≡ tree_of term.now → ⊥ }
-{
-    match pattern {
-        Term::Var(v) => {
-            let place = *v as usize;
-            match values[place] {
-                Some(value) => value.same_term(term),
-                None => {
-                    values[place] = Some(term);
-                    true
-                }
-            }
-        }
-        Term::Op(a, b) => match term {
-            Term::Var(_) => false,
-            Term::Op(c, d) => fits(a.get(), c.get(), values) && fits(b.get(), d.get(), values),
-        },
     }
 }
 

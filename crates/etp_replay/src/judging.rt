@@ -13,6 +13,7 @@ use crate::proof::{Lemma, Proof};
 use crate::refusal::ReplayRefusal;
 use crate::replaying::replay_lemmas;
 use etp_laws::{Laws, Numbered};
+use etp_match::Bindings;
 use etp_term::{Law, NoMemory};
 use std::alloc::Global;
 
@@ -36,9 +37,9 @@ pub fn replay<'p>(
 {
     let hypothesis = listed(laws, proof.hypothesis);
     let cites = cited_laws(alloc, laws, cited)?;
-    let mut values = vec![in alloc; None; 256]?;
+    let mut bindings = Bindings::empty(alloc)?;
     let lemmas = proof.lemmas.as_slice();
-    replay_lemmas(hypothesis, cites.as_slice(), lemmas, &mut values)?;
+    replay_lemmas(hypothesis, cites.as_slice(), lemmas, &mut bindings)?;
     let last = &lemmas[lemmas.len() - 1];
     compare_goal(alloc, laws, proof.goal, last)?;
     Ok(())

@@ -9,6 +9,7 @@ ghost use Rattle.etp_replay.specs.Replay.{IsMissing, IsFoundRefused, IsStepRefus
 use crate::checking::{Sides, StepCheck, test_step};
 use crate::proof::{Lemma, Step};
 use crate::refusal::ReplayRefusal;
+use etp_match::Bindings;
 use etp_term::{Law, Term};
 use sqlite_items::at;
 
@@ -67,16 +68,15 @@ impl<'c, 'p> Lines<'c, 'p> {
         place: Place,
         from: &'p Term,
         step: &'p Step,
-        values: &mut [Option<&'p Term>],
+        bindings: &mut Bindings<'p>,
     ) -> Result<(), ReplayRefusal>
-        requires { length values.old ≡ 256 }
         ensures ok { OnOk result (IsRightStep (hypothesis_in self.now) (cites_in self.now) (earlier_in self.now) (tree_of from.now) (step_of step.now)) }
         ensures err { IfErr result (λ r. IsStepRefused (hypothesis_in self.now) (cites_in self.now) (earlier_in self.now) (tree_of from.now) (step_of step.now) place.lemma place.step r) }
     {
         match self.named(step) {
             None => Err(missing(place, step)),
             Some(sides) => {
-                let check = test_step(sides.read_as(step.reversed), from, step, values);
+                let check = test_step(sides.read_as(step.reversed), from, step, bindings);
                 outcome(place, check)
             }
         }
@@ -86,9 +86,8 @@ impl<'c, 'p> Lines<'c, 'p> {
         &self,
         number: u32,
         lemma: &'p Lemma,
-        values: &mut [Option<&'p Term>],
+        bindings: &mut Bindings<'p>,
     ) -> Result<(), ReplayRefusal>
-        requires { length values.old ≡ 256 }
         ensures ok { OnOk result (AreRightSteps (hypothesis_in self.now) (cites_in self.now) (earlier_in self.now) (tree_of lemma.now.start) (map step_of lemma.now.steps)) }
         ensures err { IfErr result (λ r. IsLemmaRefused (hypothesis_in self.now) (cites_in self.now) (earlier_in self.now) (lemma_of lemma.now) number r) }
     {
@@ -98,7 +97,7 @@ impl<'c, 'p> Lines<'c, 'p> {
                 lemma: number,
                 step: at as u32 + 1,
             };
-            self.replay_step(place, from, step, values)?;
+            self.replay_step(place, from, step, bindings)?;
             from = &step.to;
         }
         Ok(())
@@ -147,10 +146,9 @@ pub(crate) fn replay_lemmas<'c, 'p>(
     hypothesis: &'p Law,
     cites: &'c [&'p Law],
     lemmas: &'p [Lemma],
-    values: &mut [Option<&'p Term>],
+    bindings: &mut Bindings<'p>,
 ) -> Result<(), ReplayRefusal>
-    requires values { length values.old ≡ 256 }
-    requires few { length lemmas.now < 4294967296 }
+    requires { length lemmas.now < 4294967296 }
     ensures ok { OnOk result (AreRightLemmas (equation_of hypothesis.now) (cites_of cites.now) [] (map lemma_of lemmas.now)) }
     ensures err { IfErr result (λ r. IsFirstWrong (equation_of hypothesis.now) (cites_of cites.now) (map lemma_of lemmas.now) r) }
 {
@@ -160,7 +158,7 @@ pub(crate) fn replay_lemmas<'c, 'p>(
             cites,
             earlier: &lemmas[..at],
         };
-        lines.replay_lemma(at as u32 + 1, lemma, values)?;
+        lines.replay_lemma(at as u32 + 1, lemma, bindings)?;
     }
     Ok(())
 }
