@@ -1,7 +1,7 @@
 -- A step by two matches, one after the other.
 use Rattle.std.proofs.Common.{◌≡◌, ℕ, List, [], Option, Some, None, IsSome, refl, sym, ap, ◌∙◌, subst}
 use Rattle.etp_theory.specs.Trees.{Tree, Equation}
-use Rattle.etp_theory.specs.Substitutions.{apply, Partial, total}
+use Rattle.etp_theory.specs.Substitutions.{Partial, total}
 use Rattle.etp_theory.specs.Positions.{Side, sub_at}
 use Rattle.etp_theory.specs.Proofs.{AgreeOutside, IsStepBy}
 use Rattle.etp_match.specs.Bindings.{partial_of}
