@@ -1,5 +1,5 @@
 -- When a proof of listed laws is valid, and what its refusal says.
-use Rattle.std.specs.Prelude.{◌≡◌, ◌-◌, ◌⊎◌, ℕ, List, [], Some, length, map, slice_get, unwrap_or}
+use Rattle.std.specs.Prelude.{◌≡◌, ◌-◌, ◌⊎◌, ℕ, List, [], All, Some, IsSome, length, map, slice_get, unwrap_or}
 use Rattle.etp_theory.specs.Trees.{Equation}
 use Rattle.etp_theory.specs.Sameness.{Same}
 use Rattle.etp_theory.specs.Proofs.{Lemma, conclusion, AreRightLemmas, IsValidProof}
@@ -17,11 +17,15 @@ use Rattle.etp_replay.specs.declared.refusal.ReplayRefusal.TheVariants.{GoalDiff
 abbrev pub law_at : List Equation → ℕ → Equation
 law_at laws n = unwrap_or (law_numbered laws n) trivial
 
--- the proof of the goal from the hypothesis is valid, with the laws of the cited numbers
-abbrev pub IsValid : List Equation → Proof → List ℕ → Type 0
-IsValid laws proof cited =
-    IsValidProof (law_at laws proof.hypothesis) (law_at laws proof.goal) (map (law_at laws) cited)
-    (map lemma_of proof.lemmas)
+-- the proof is valid with the laws of the cited numbers: all numbers are listed, one is cited for each
+-- cite, every step is right, and the last lemma concludes the goal
+pub record IsValid (laws : List Equation) (proof : Proof) (cited : List ℕ) : Type 0 where
+  pub hypothesis_listed : IsSome (law_numbered laws proof.hypothesis)
+  pub goal_listed : IsSome (law_numbered laws proof.goal)
+  pub as_many : length cited ≡ length proof.cites
+  pub cited_listed : All (λ n. IsSome (law_numbered laws n)) cited
+  pub right : IsValidProof (law_at laws proof.hypothesis) (law_at laws proof.goal)
+      (map (law_at laws) cited) (map lemma_of proof.lemmas)
 
 -- another law than the goal was found, and the refusal has its number or why it has none
 abbrev pub IsOtherLaw : LawList → Equation → Equation → ReplayRefusal → Type 0

@@ -63,6 +63,38 @@ fn one_lemma(alloc: Global, hypothesis: u32, goal: u32, lemma: Lemma) -> Result<
     })
 }
 
+/// From x = x ◇ y two lemmas: x = x ◇ x, and x ◇ (y ◇ y) = x ◇ y by a step of the first in the right
+/// part.
+fn two_lemmas(alloc: Global, reversed: bool) -> Result<Proof, NoMemory> {
+    let to = product(alloc, 0, 0)?;
+    let mut steps = Steps::empty(alloc);
+    steps.push(step(alloc, 0, to))?;
+    let mut lemmas = Lemmas::empty(alloc);
+    lemmas.push(Lemma {
+        start: Term::Var(0),
+        steps,
+    })?;
+    let mut position = Position::root(alloc);
+    position.push(Side::R)?;
+    let mut steps = Steps::empty(alloc);
+    steps.push(Step {
+        to: product(alloc, 0, 1)?,
+        line: 1,
+        cited: false,
+        reversed,
+        position,
+    })?;
+    let square = product(alloc, 1, 1)?;
+    let start = op(alloc, Term::Var(0), square)?;
+    lemmas.push(Lemma { start, steps })?;
+    Ok(Proof {
+        hypothesis: 4,
+        goal: 326,
+        cites: Cites::empty(alloc),
+        lemmas,
+    })
+}
+
 /// What replay answers where its conditions hold; no number is cited.
 fn replayed(alloc: Global, laws: &Laws, proof: &Proof) -> Option<Result<(), ReplayRefusal>> {
     if laws.law(proof.hypothesis).is_none() {
@@ -156,6 +188,21 @@ fn a_lemma_is_no_line_of_itself(rt: HostRuntime) {
                 step: 1,
                 line: 1
             }))
+        )
+    );
+}
+
+#[test]
+fn an_earlier_lemma_is_used_from_right_to_left(rt: HostRuntime) {
+    let alloc = rt.alloc();
+    let laws = Laws::build(alloc).expect(&rt, "memory");
+    let proof = two_lemmas(alloc, true).expect(&rt, "memory");
+    assert!(rt; matches!(replayed(alloc, &laws, &proof), Some(Ok(()))));
+    let forwards = two_lemmas(alloc, false).expect(&rt, "memory");
+    assert!(rt;
+        matches!(
+            replayed(alloc, &laws, &forwards),
+            Some(Err(ReplayRefusal::NoMatch { lemma: 2, step: 1 }))
         )
     );
 }

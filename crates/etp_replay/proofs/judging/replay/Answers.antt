@@ -10,7 +10,13 @@ use Rattle.etp_replay.proofs.judging.replay.Goals as goal
 
 pub returns-clause-valid : goal.returns-clause-valid
 returns-clause-valid c =
-    is_valid (law_at c.args.laws.now.equations c.args.proof.now.hypothesis) (equation_of c.listed-hypothesis.result.now) (law_at c.args.laws.now.equations c.args.proof.now.goal) (map (law_at c.args.laws.now.equations) c.args.cited.now) (cites_of c.as_slice.result.now) c.args.proof.now.lemmas c.as_slice-lemmas.result.now c.listed-hypothesis.ensures.law (ap cites_of c.as_slice.ensures.value ∙ c.in_ok-cites.ensures) c.as_slice-lemmas.ensures.value c.requires.lemmas c.in_ok-replay_lemmas.ensures.ok c.index-lemmas-lemmas.result c.index-lemmas-lemmas.is c.in_ok-compare_goal.ensures.ok
+    record {
+      hypothesis_listed = c.requires.hypothesis;
+      goal_listed = c.requires.goal;
+      as_many = c.requires.cites;
+      cited_listed = c.requires.cited;
+      right = is_valid (law_at c.args.laws.now.equations c.args.proof.now.hypothesis) (equation_of c.listed-hypothesis.result.now) (law_at c.args.laws.now.equations c.args.proof.now.goal) (map (law_at c.args.laws.now.equations) c.args.cited.now) (cites_of c.as_slice.result.now) c.args.proof.now.lemmas c.as_slice-lemmas.result.now c.listed-hypothesis.ensures.law (ap cites_of c.as_slice.ensures.value ∙ c.in_ok-cites.ensures) c.as_slice-lemmas.ensures.value c.requires.lemmas c.in_ok-replay_lemmas.ensures.ok c.index-lemmas-lemmas.result c.index-lemmas-lemmas.is c.in_ok-compare_goal.ensures.ok;
+    }
 
 pub returns-clause-derived : goal.returns-clause-derived
 returns-clause-derived c = λ derived.
