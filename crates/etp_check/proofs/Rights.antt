@@ -1,19 +1,20 @@
 -- What a valid body says is right where what it cites is.
-use Rattle.std.proofs.Common.{◌≡◌, ℕ, zero, suc, List, Contains, Option, Some, None, IsSome, is_some, unwrap_or, true≢false, refl, length, map, slice_get, sym, ap, subst, ◌∙◌, arith}
+use Rattle.std.proofs.Common.{◌≡◌, ℕ, zero, suc, List, Contains, Option, Some, None, IsSome, is_some, unwrap_or, true≢false, refl, All, length, map, slice_get, sym, ap, subst, ◌∙◌, arith}
 use Rattle.std.specs.Option.{option_map}
+use Rattle.std.proofs.lemmas.List.Elements.{All-contains}
 use Rattle.std.proofs.lemmas.Option.{slice_get-map, slice_get_within, get_or_from_slice_get}
 use Rattle.etp_theory.specs.Trees.{Equation}
 use Rattle.etp_theory.specs.Derivations.{Derives}
 use Rattle.etp_theory.specs.Proofs.{AllDerived}
 use Rattle.etp_theory.specs.Numbered.{IsLaw, law_numbered}
-use Rattle.etp_theory.specs.RightFacts.{Implies, IsRightFact}
+use Rattle.etp_theory.specs.RightFacts.{Implies}
 use Rattle.etp_theory.proofs.Proofs.{proved}
 use Rattle.etp_laws.specs.Listing.{trivial}
 use Rattle.etp_laws.proofs.Entries.{entry_zero}
 use Rattle.etp_replay.specs.Validity.{law_at}
 use Rattle.etp_replay.proofs.Goals.{listed_law}
 use Rattle.etp_items.specs.Bodies.{FileBody, proof}
-use Rattle.etp_check.specs.Checks.{fact_said, hypothesis_of, IsListedBody, IsValidBody, HasLaws}
+use Rattle.etp_check.specs.Checks.{fact_said, IsListedBody, IsValidBody, SaysRight, HasLaws}
 
 same_some : (p q : Equation) → Some p ≡ Some q → p ≡ q
 same_some p q e = cc
@@ -37,15 +38,16 @@ module _ (laws : List Equation) (hypothesis : ℕ) (cited : List ℕ) (listed : 
           let is = same_some (law_at laws n) e (sym (ap (option_map (law_at laws)) some) ∙ sym (slice_get-map (law_at laws) cited k) ∙ h) in
           subst (Derives (law_at laws hypothesis)) is (one_derived n (k, slice_get_within cited k n some, get_or_from_slice_get cited k n n some))
 
--- a valid body of listed laws says what is right, where its cited numbers are implied by its hypothesis
-pub right_fact : (laws : List Equation) (body : FileBody) (cited : List ℕ) → IsListedBody laws body → IsValidBody laws body cited
-    → ((n : ℕ) → Contains cited n → Implies laws (hypothesis_of body) n) → IsRightFact laws (fact_said body)
-right_fact laws (proof p) cited listed valid right = record {
+-- a valid body says what is right, where its cited numbers are implied by its hypothesis
+pub right_fact : (laws : List Equation) (body : FileBody) (cited : List ℕ) → IsValidBody laws body cited → SaysRight laws body cited
+right_fact laws (proof p) cited valid implied = record {
   hypothesis = law_at laws p.hypothesis;
   goal = law_at laws p.goal;
-  hypothesis_listed = listed_law laws p.hypothesis listed.hypothesis_listed;
-  goal_listed = listed_law laws p.goal listed.goal_listed;
-  derived = proved (law_at laws p.hypothesis) (map (law_at laws) cited) (all_derived laws p.hypothesis cited listed.hypothesis_listed right) (law_at laws p.goal) p.lemmas valid;
+  hypothesis_listed = listed_law laws p.hypothesis valid.listed.hypothesis_listed;
+  goal_listed = listed_law laws p.goal valid.listed.goal_listed;
+  derived =
+      let right = λ (n : ℕ) (there : Contains cited n). All-contains (Implies laws p.hypothesis) cited n implied there in
+      proved (law_at laws p.hypothesis) (map (law_at laws) cited) (all_derived laws p.hypothesis cited valid.listed.hypothesis_listed right) (law_at laws p.goal) p.lemmas valid.right;
 }
 
 -- a listed number is one of the list's laws

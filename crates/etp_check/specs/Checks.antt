@@ -1,9 +1,9 @@
--- What a body says, and when it is valid.
-use Rattle.std.specs.Prelude.{◌≡◌, ◌<◌, ℕ, List, All, IsSome, length, map}
+-- What a body says, when it is valid, and when what it says is right.
+use Rattle.std.specs.Prelude.{◌≡◌, ◌<◌, ℕ, List, Option, Some, None, All, IsSome, length, map}
 use Rattle.etp_theory.specs.Trees.{Equation}
-use Rattle.etp_theory.specs.Derivations.{Derives}
-use Rattle.etp_theory.specs.Proofs.{AllDerived, IsValidProof}
+use Rattle.etp_theory.specs.Proofs.{IsValidProof}
 use Rattle.etp_theory.specs.Reach.{Fact, implies, refutes}
+use Rattle.etp_theory.specs.RightFacts.{Implies, IsRightFact}
 use Rattle.etp_theory.specs.Numbered.{IsLaw, law_numbered}
 use Rattle.etp_replay.specs.Validity.{law_at}
 use Rattle.etp_items.specs.Bodies.{FileBody, ProofBody, proof}
@@ -33,25 +33,34 @@ HasLaws count (refutes holds fails) = All (IsLaw count) holds × All (IsLaw coun
 abbrev pub cites_of : FileBody → List (List ℕ)
 cites_of (proof p) = p.cites
 
--- the law from which a body proves, and from which the files that it cites must prove too
-abbrev pub hypothesis_of : FileBody → ℕ
-hypothesis_of (proof p) = p.hypothesis
+-- the law, if any, from which a body proves, and from which the files that it cites must prove too
+abbrev pub hypothesis_of : FileBody → Option ℕ
+hypothesis_of (proof p) = Some p.hypothesis
 
 -- one listed number for each cite
 pub record AreCitedNumbers (laws : List Equation) (body : FileBody) (cited : List ℕ) : Type 0 where
   pub as_many : length cited ≡ length (cites_of body)
   pub cited_listed : All (λ n. IsSome (law_numbered laws n)) cited
 
--- with the laws of the cited numbers the body is valid: a proof derives its goal step by step
-abbrev pub IsValidBody : List Equation → FileBody → List ℕ → Type 0
-IsValidBody laws (proof p) cited =
+-- with the laws of the cited numbers a proof derives its goal step by step
+abbrev pub IsRightBody : List Equation → FileBody → List ℕ → Type 0
+IsRightBody laws (proof p) cited =
     IsValidProof (law_at laws p.hypothesis) (law_at laws p.goal) (map (law_at laws) cited) p.lemmas
 
--- the goal is derived from the hypothesis where the laws of the cited numbers are
-pub record IsDerived (laws : List Equation) (p : ProofBody) (cited : List ℕ) : Type 0 where
-  pub derived : AllDerived (law_at laws p.hypothesis) (map (law_at laws) cited)
-      → Derives (law_at laws p.hypothesis) (law_at laws p.goal)
+-- the body meets what its check requires, with one listed number for each cite, and is right with
+-- the laws of these numbers
+pub record IsValidBody (laws : List Equation) (body : FileBody) (cited : List ℕ) : Type 0 where
+  pub listed : IsListedBody laws body
+  pub content : HasContent body
+  pub numbers : AreCitedNumbers laws body cited
+  pub right : IsRightBody laws body cited
 
--- so it is for what a body says
-abbrev pub IsDerivedBody : List Equation → FileBody → List ℕ → Type 0
-IsDerivedBody laws (proof p) cited = IsDerived laws p cited
+-- the hypothesis, where there is one, implies the law of each number
+abbrev pub AreImplied : List Equation → Option ℕ → List ℕ → Type 0
+AreImplied laws None numbers = Unit {0}
+AreImplied laws (Some hypothesis) numbers = All (Implies laws hypothesis) numbers
+
+-- what the body says is right where its hypothesis implies the law of each cited number
+abbrev pub SaysRight : List Equation → FileBody → List ℕ → Type 0
+SaysRight laws body cited =
+    AreImplied laws (hypothesis_of body) cited → IsRightFact laws (fact_said body)
