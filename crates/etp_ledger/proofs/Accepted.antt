@@ -1,13 +1,13 @@
 -- Files that are accepted one after the other: one more, and what they say is right.
-use Rattle.std.proofs.Common.{◌≡◌, ℕ, zero, suc, List, [], ◌∷◌, ◌++◌, Bool, true, false, cond, All, Contains, Option, Some, None, IsSome, is_some, slice_get, refl, sym, ap, subst, ◌∙◌, append_assoc}
+use Rattle.std.proofs.Common.{◌≡◌, ℕ, zero, suc, List, [], ◌∷◌, ◌++◌, Bool, true, false, cond, All, Contains, Option, Some, None, IsSome, is_some, map, slice_get, refl, sym, ap, subst, ◌∙◌, append_assoc}
 use Rattle.etp_theory.specs.Trees.{Equation}
-use Rattle.etp_theory.specs.Reach.{Fact, implies}
+use Rattle.etp_theory.specs.Reach.{Fact, implies, refutes}
 use Rattle.etp_theory.specs.RightFacts.{Implies, IsRightFact}
 use Rattle.etp_items.specs.Bodies.{FileBody}
-use Rattle.etp_check.specs.Checks.{fact_said, hypothesis_of, cites_of}
+use Rattle.etp_check.specs.Checks.{fact_said, hypothesis_of, cites_of, AreImplied}
 use Rattle.etp_theory.specs.Numbered.{law_numbered}
 use Rattle.etp_check.proofs.Rights.{right_fact}
-use Rattle.etp_ledger.specs.Files.{File, facts_of, is_named, body_named, StandsAsProof, ProvesFrom, goal_said, goal_in, cited_goals}
+use Rattle.etp_ledger.specs.Files.{File, facts_of, is_named, body_named, IsFrom, StandsAsProof, ProvesFrom, goal_said, goal_in, cited_goals}
 use Rattle.etp_ledger.specs.Accepting.{IsAccepted, AreAcceptedAfter, AreAccepted}
 use Rattle.etp_ledger.proofs.Naming.{or_else, named_more}
 use Rattle.etp_ledger.proofs.Lists.{all_at, all_from, contains_get, map_origin}
@@ -26,22 +26,41 @@ module _ (laws : List Equation) where
   abbrev AreRight : List File → Type 0
   AreRight files = (name : List ℕ) (body : FileBody) → body_named name files ≡ Some body → IsRightFact laws (fact_said body)
 
-  -- the goal of a cited file is implied
-  cited_right : (files : List File) (hypothesis : ℕ) (name : List ℕ) → AreRight files → StandsAsProof files hypothesis name → Implies laws hypothesis (goal_in (body_named name files))
+  -- what an implication from a hypothesis says, where it is right
+  from_right : (hypothesis : ℕ) (x : Fact) → IsFrom (Some hypothesis) x → IsRightFact laws x → Implies laws hypothesis (goal_said x)
+  from_right hypothesis (implies from goal) e right = let same : from ≡ hypothesis = cc in subst (λ n. Implies laws n goal) same right
+  from_right hypothesis (refutes holds fails) e right = absurd e
+
+  goal_listed : (hypothesis : Option ℕ) (x : Fact) → IsFrom hypothesis x → IsRightFact laws x → IsSome (law_numbered laws (goal_said x))
+  goal_listed hypothesis (implies from goal) e right = ap is_some right.goal_listed
+  goal_listed hypothesis (refutes holds fails) e right = absurd e
+
+  -- the goal of a cited file is implied, and listed
+  cited_right : (files : List File) (hypothesis : ℕ) (name : List ℕ) → AreRight files → StandsAsProof files (Some hypothesis) name → Implies laws hypothesis (goal_in (body_named name files))
   cited_right files hypothesis name right stands = by (body_named name files) refl stands
     where
-      by : (o : Option FileBody) → body_named name files ≡ o → ProvesFrom hypothesis o → Implies laws hypothesis (goal_in o)
+      by : (o : Option FileBody) → body_named name files ≡ o → ProvesFrom (Some hypothesis) o → Implies laws hypothesis (goal_in o)
       by None e h = absurd h
-      by (Some body) e h =
-          let said : IsRightFact laws (implies hypothesis h.0) = subst (IsRightFact laws) h.1 (right name body e) in
-          subst (Implies laws hypothesis) (sym (ap goal_said h.1)) said
+      by (Some body) e h = from_right hypothesis (fact_said body) h (right name body e)
+
+  cited_listed : (files : List File) (hypothesis : Option ℕ) (name : List ℕ) → AreRight files → StandsAsProof files hypothesis name → IsSome (law_numbered laws (goal_in (body_named name files)))
+  cited_listed files hypothesis name right stands = by (body_named name files) refl stands
+    where
+      by : (o : Option FileBody) → body_named name files ≡ o → ProvesFrom hypothesis o → IsSome (law_numbered laws (goal_in o))
+      by None e h = absurd h
+      by (Some body) e h = goal_listed hypothesis (fact_said body) h (right name body e)
+
+  -- so are those of all cited files
+  cites_implied : (files : List File) (hypothesis : Option ℕ) (names : List (List ℕ)) → AreRight files → All (StandsAsProof files hypothesis) names → AreImplied laws hypothesis (map (λ name. goal_in (body_named name files)) names)
+  cites_implied files None names right stand = tt
+  cites_implied files (Some hypothesis) names right stand =
+      all_from (Implies laws hypothesis) (map (λ name. goal_in (body_named name files)) names) (λ k n h.
+      let from = map_origin (λ name. goal_in (body_named name files)) names k n h in
+      subst (Implies laws hypothesis) from.2 (cited_right files hypothesis from.0 right (all_at (StandsAsProof files (Some hypothesis)) names k from.0 stand from.1)))
 
   accepted_right : (files : List File) (name : List ℕ) (body : FileBody) → AreRight files → IsAccepted laws files name body → IsRightFact laws (fact_said body)
   accepted_right files name body right one =
-      right_fact laws body (cited_goals files body) one.listed one.valid (λ n there.
-      let at = contains_get (cited_goals files body) n there in
-      let from = map_origin (λ cite. goal_in (body_named cite files)) (cites_of body) at.0 n at.1 in
-      subst (Implies laws (hypothesis_of body)) from.2 (cited_right files (hypothesis_of body) from.0 right (all_at (StandsAsProof files (hypothesis_of body)) (cites_of body) at.0 from.0 one.cited from.1)))
+      right_fact laws body (cited_goals files body) one.valid.valid (cites_implied files (hypothesis_of body) (cites_of body) right one.valid.cited)
 
   some_body : (a b : FileBody) → Some a ≡ Some b → a ≡ b
   some_body a b e = cc
@@ -84,5 +103,5 @@ module _ (laws : List Equation) where
   goals_listed files body all stand =
       all_from (λ n. IsSome (law_numbered laws n)) (cited_goals files body) (λ k n h.
       let from = map_origin (λ cite. goal_in (body_named cite files)) (cites_of body) k n h in
-      let right = cited_right files (hypothesis_of body) from.0 (right_after [] files (λ name body e. absurd (cc)) all) (all_at (StandsAsProof files (hypothesis_of body)) (cites_of body) k from.0 stand from.1) in
-      subst (λ m. IsSome (law_numbered laws m)) from.2 (ap is_some right.goal_listed))
+      let listed = cited_listed files (hypothesis_of body) from.0 (right_after [] files (λ name body e. absurd (cc)) all) (all_at (StandsAsProof files (hypothesis_of body)) (cites_of body) k from.0 stand from.1) in
+      subst (λ m. IsSome (law_numbered laws m)) from.2 listed)

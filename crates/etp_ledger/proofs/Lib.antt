@@ -1,7 +1,9 @@
 pub mod Lists
 pub mod Naming
 pub mod Accepted
+pub mod StillValid
 pub mod Withdrawn
+pub mod Ends
 pub mod Meaning
 pub mod Storing
 pub mod Verdicts

@@ -1,5 +1,5 @@
 -- What a ledger keeps makes its answers right.
-use Rattle.std.proofs.Common.{◌≡◌, ℕ, zero, suc, ◌<◌, ◌≤◌, ◌⊎◌, inl, inr, List, [], ◌∷◌, ◌++◌, true, false, cond, All, Contains, Some, IsTrue, length, get_or, sym, ap, subst, ◌∙◌, arith, length-append}
+use Rattle.std.proofs.Common.{◌≡◌, ◌≢◌, ℕ, zero, suc, ◌<◌, ◌≤◌, ◌⊎◌, inl, inr, List, [], ◌∷◌, ◌++◌, true, false, cond, All, Contains, Some, None, IsTrue, length, get_or, sym, ap, subst, ◌∙◌, arith, length-append}
 use Rattle.std.proofs.lemmas.Option.{slice_get-get_or, slice_get_within}
 use Rattle.etp_theory.specs.Trees.{Equation, law_dual}
 use Rattle.etp_theory.specs.Sameness.{Same}
@@ -8,7 +8,7 @@ use Rattle.etp_theory.specs.Numbered.{IsLaw, law_numbered, dual_number}
 use Rattle.etp_theory.specs.RightFacts.{AreRightFacts}
 use Rattle.etp_theory.proofs.Reaching.{reach_derives, covered_apart, never_both}
 use Rattle.etp_laws.specs.Listing.{trivial, IsTheList}
-use Rattle.etp_laws.specs.LawLists.{AreDuals}
+use Rattle.etp_laws.specs.LawLists.{LawList, AreDuals}
 use Rattle.etp_laws.specs.Enumeration.{laws_upto}
 use Rattle.etp_laws.proofs.TheList.{laws_upto_is}
 use Rattle.etp_laws.proofs.Blocks.{laws_upto_4, laws_upto_5}
@@ -18,15 +18,23 @@ use Rattle.etp_closure.specs.Answers.{Says}
 use Rattle.etp_closure.specs.declared.facts.Answer.{Answer}
 use Rattle.etp_closure.specs.declared.facts.Answer.TheVariants.{Implied, Refuted, Unsettled}
 use Rattle.etp_items.specs.Bodies.{FileBody}
-use Rattle.etp_check.specs.Checks.{fact_said, hypothesis_of, cites_of, IsListedBody, AreCitedNumbers, HasLaws}
+use Rattle.etp_replay.specs.Names.{IsName}
+use Rattle.etp_check.specs.Checks.{fact_said, hypothesis_of, cites_of, IsListedBody, AreCitedNumbers, IsValidBody, HasLaws}
+use Rattle.etp_check.specs.Refusals.{IsBodyOffence, IsCheckRefused}
+use Rattle.etp_check.specs.declared.refusal.CheckRefusal.{CheckRefusal}
+use Rattle.etp_check.specs.declared.refusal.CheckRefusal.TheVariants as Checked
 use Rattle.etp_check.proofs.Rights.{listed_fact}
 use Rattle.etp_ledger.specs.Files.{File, facts_of, is_named, body_named, goal_in, cited_goals, StandsAsProof}
 use Rattle.etp_ledger.specs.Accepting.{IsAccepted, AreAccepted}
 use Rattle.etp_ledger.specs.Withdrawing.{Cites, without}
-use Rattle.etp_ledger.specs.Asking.{Means}
+use Rattle.etp_ledger.specs.Asking.{Means, ClosureMeans}
+use Rattle.etp_ledger.specs.Refusals.{IsFileRefused}
+use Rattle.etp_ledger.specs.declared.refusal.LedgerRefusal.{LedgerRefusal}
+use Rattle.etp_ledger.specs.declared.refusal.LedgerRefusal.TheVariants.{Check, NoMemory}
 use Rattle.etp_ledger.specs.Ledgers.{Entries, IsLedger}
 use Rattle.etp_ledger.proofs.Lists.{map_long}
 use Rattle.etp_ledger.proofs.Accepted.{facts_right, accepted_more, goals_listed}
+use Rattle.etp_ledger.proofs.Ends.{end_listed, covered_listed}
 use Rattle.etp_ledger.proofs.Withdrawn.{withdrawn_accepted, without_stood}
 
 -- what a ledger keeps, by what callers see of it
@@ -56,7 +64,7 @@ module _ (order : ℕ) (files : List File) (closure : Known) (l : IsLedger order
     each = facts_right laws files (l.accepted laws list);
   }
 
-  pub not_both : (e f : ℕ) → IsTrue (is_reached closure e f) → IsTrue (is_covered closure e f) → ⊥
+  not_both : (e f : ℕ) → IsTrue (is_reached closure e f) → IsTrue (is_covered closure e f) → ⊥
   not_both e f r c = never_both laws closure.duals (facts_of files) right_facts ((l.stands.reached e f).0 r) ((l.stands.covered e f).0 c)
 
   pub means : (e f : ℕ) → IsLaw (length closure.duals) e → IsLaw (length closure.duals) f → (a : Answer) → Says closure.duals (facts_of files) e f a → Means laws e f a
@@ -69,6 +77,22 @@ module _ (order : ℕ) (files : List File) (closure : Known) (l : IsLedger order
       let q = listed laws closure.duals (l.duals laws list) f hf in
       record { holding = p.0; failing = q.0; holding_listed = p.1; failing_listed = q.1; apart = covered_apart laws closure.duals (facts_of files) right_facts says.1 p.0 q.0 p.1 q.1 }
   means e f he hf Unsettled says = tt
+
+pub closure_means : (order : ℕ) (files : List File) (closure : Known) → IsLedger order files closure → ClosureMeans order closure
+closure_means order files closure l = record {
+  reached = λ laws e f list is r.
+      let right = right_facts order files closure l laws list in
+      let path = (l.stands.reached e f).0 r in
+      let p = listed laws closure.duals (l.duals laws list) e (subst (λ n. IsLaw n e) (sym (l.duals laws list).long) is) in
+      let q = end_listed laws closure.duals (facts_of files) right path p in
+      record { hypothesis = p.0; goal = q.0; hypothesis_listed = p.1; goal_listed = q.1; derived = reach_derives laws closure.duals (facts_of files) right path p.0 q.0 p.1 q.1 };
+  covered = λ laws e f list v.
+      let right = right_facts order files closure l laws list in
+      let cover = (l.stands.covered e f).0 v in
+      let ends = covered_listed laws closure.duals (facts_of files) right cover in
+      record { holding = ends.0.0; failing = ends.1.0; holding_listed = ends.0.1; failing_listed = ends.1.1; apart = covered_apart laws closure.duals (facts_of files) right cover ends.0.0 ends.1.0 ends.0.1 ends.1.1 };
+  never_both = λ e f r v. not_both order files closure l (laws_upto order) (laws_upto_is order) e f r v;
+}
 
 -- lists of as many laws are of one order
 lengths_differ : length (laws_upto 4) ≡ length (laws_upto 5) → ⊥
@@ -108,6 +132,16 @@ module _ (order : ℕ) (files : List File) (closure : Known) (l : IsLedger order
         let same = IsTheList-unique order laws other own_list is in
         subst (AreAccepted other) (sym e) (accepted_more other [] files (record { name = name; body = body }) (l.accepted other is) (subst (λ (es : List Equation). IsAccepted es files name body) same one));
   }
+
+-- what the check of a body says of a file whose name is free and whose cites stand
+module _ (l : LawList) (files : List File) (name : List ℕ) (body : FileBody) (cited : List ℕ) (free : body_named name files ≡ None) (stand : All (StandsAsProof files (hypothesis_of body)) (cites_of body)) (goals : cited ≡ cited_goals files body) where
+  pub accepted_by : IsName name → IsValidBody l.equations body cited → IsAccepted l.equations files name body
+  accepted_by spelled valid = record { spelled = spelled; free = free; valid = record { cited = stand; valid = subst (IsValidBody l.equations body) goals valid } }
+
+  pub refused_by : (x : CheckRefusal) (r : LedgerRefusal) → IsCheckRefused l body cited x → ((r ≡ NoMemory) × (x ≡ Checked.NoMemory)) ⊎ ((r ≡ Check x) × (x ≢ Checked.NoMemory)) → IsFileRefused l files name body r
+  refused_by x r why (inl of) = subst (IsFileRefused l files name body) (sym of.0) tt
+  refused_by x r (inl none) (inr of) = absurd (of.1 none)
+  refused_by x r (inr offence) (inr of) = subst (IsFileRefused l files name body) (sym of.0) (free, stand, subst (λ (c : List ℕ). IsBodyOffence l body c x) goals offence)
 
 -- a ledger gives a file back
 module _ (order : ℕ) (files : List File) (closure : Known) (l : IsLedger order files closure) (name : List ℕ) where

@@ -4,11 +4,10 @@ use Rattle.etp_theory.specs.Trees.{Equation}
 use Rattle.etp_laws.specs.Listing.{IsTheList}
 use Rattle.etp_laws.specs.LawLists.{LawList}
 use Rattle.etp_items.specs.Bodies.{FileBody}
-use Rattle.etp_replay.specs.declared.refusal.ReplayRefusal.{ReplayRefusal}
-use Rattle.etp_check.specs.Checks.{hypothesis_of, cites_of}
+use Rattle.etp_check.specs.Checks.{hypothesis_of, cites_of, IsRightBody}
 use Rattle.etp_check.specs.Refusals.{IsBodyOffence}
-use Rattle.etp_check.specs.declared.refusal.CheckRefusal.TheVariants as Checked
-use Rattle.etp_check.proofs.Verdicts.{body_valid_or_refused, one_offence}
+use Rattle.etp_check.specs.declared.refusal.CheckRefusal.{CheckRefusal}
+use Rattle.etp_check.proofs.Verdicts.{right_or_refused as body_right_or_refused, one_offence}
 use Rattle.etp_ledger.specs.Files.{File, body_named, Stands, StandsAsProof, ProvesFrom, cited_goals}
 use Rattle.etp_ledger.specs.Accepting.{IsAccepted, AreAccepted}
 use Rattle.etp_ledger.specs.Withdrawing.{Cites, IsWithdrawn, IsFirstCiting}
@@ -35,11 +34,11 @@ one_item o x y h k = cc
 stands_or_free : {X : Type 0} (o : Option X) → IsSome o → o ≡ None → ⊥
 stands_or_free o h e = true≢false (sym h ∙ ap is_some e)
 
-proves_or_other : (h : ℕ) (o : Option FileBody) → ProvesFrom h o → ProvesOther h o → ⊥
+proves_or_other : (h : Option ℕ) (o : Option FileBody) → ProvesFrom h o → ProvesOther h o → ⊥
 proves_or_other h None p q = p
-proves_or_other h (Some body) p q = q p.0 p.1
+proves_or_other h (Some body) p q = q p
 
-module _ (files : List File) (h : ℕ) where
+module _ (files : List File) (h : Option ℕ) where
   -- how a cite is refused
   cite_ways : (name : List ℕ) (n : ℕ) (r : LedgerRefusal) → IsCiteRefused files h name n r
       → ((r ≡ CiteMissing n) × (body_named name files ≡ None)) ⊎ ((r ≡ CiteOther n) × ProvesOther h (body_named name files))
@@ -94,7 +93,7 @@ module _ (files : List File) (h : ℕ) where
 data Way (l : LawList) (files : List File) (name : List ℕ) (body : FileBody) (r : LedgerRefusal) : Type 0 where
   taken : r ≡ NameTaken → Stands files name → Way l files name body r
   by_cite : body_named name files ≡ None → IsFirstCiteRefused files (hypothesis_of body) (cites_of body) r → Way l files name body r
-  by_check : (x : ReplayRefusal) → r ≡ Check (Checked.Replay x) → body_named name files ≡ None
+  by_check : (x : CheckRefusal) → r ≡ Check x → body_named name files ≡ None
       → All (StandsAsProof files (hypothesis_of body)) (cites_of body) → IsBodyOffence l body (cited_goals files body) x → Way l files name body r
   wanting : r ≡ NoMemory → Way l files name body r
 
@@ -103,21 +102,24 @@ module _ (l : LawList) (files : List File) (name : List ℕ) (body : FileBody) w
   way_of NameTaken w = taken refl w
   way_of (CiteMissing c) w = by_cite w.0 w.1
   way_of (CiteOther c) w = by_cite w.0 w.1
-  way_of (Check (Checked.Replay x)) w = by_check x refl w.0 w.1.0 w.1.1
-  way_of (Check Checked.NoMemory) w = absurd w.1
+  way_of (Check x) w = by_check x refl w.0 w.1 w.2
   way_of NoMemory w = wanting refl
   way_of NoSuchName w = absurd w
   way_of (UnknownLaw n) w = absurd w
   way_of (Cited n) w = absurd w
 
-  way_accepted : (r : LedgerRefusal) → IsAccepted l.equations files name body → Way l files name body r → r ≡ NoMemory
-  way_accepted r one (taken e stands) = absurd (stands_or_free (body_named name files) stands one.free)
-  way_accepted r one (by_cite free w) = absurd (cites_right_or_refused files (hypothesis_of body) (cites_of body) r one.cited w)
-  way_accepted r one (by_check x e free all w) = absurd (body_valid_or_refused l body (cited_goals files body) x one.valid w)
-  way_accepted r one (wanting e) = e
+  module _ (free : body_named name files ≡ None) (cited : All (StandsAsProof files (hypothesis_of body)) (cites_of body)) (right : IsRightBody l.equations body (cited_goals files body)) where
+    way_right : (r : LedgerRefusal) → Way l files name body r → r ≡ NoMemory
+    way_right r (taken e stands) = absurd (stands_or_free (body_named name files) stands free)
+    way_right r (by_cite same w) = absurd (cites_right_or_refused files (hypothesis_of body) (cites_of body) r cited w)
+    way_right r (by_check x e same all w) = absurd (body_right_or_refused l body (cited_goals files body) x right w)
+    way_right r (wanting e) = e
+
+    pub right_or_refused : (r : LedgerRefusal) → IsFileRefused l files name body r → r ≡ NoMemory
+    right_or_refused r w = way_right r (way_of r w)
 
   pub accepted_or_refused : (r : LedgerRefusal) → IsAccepted l.equations files name body → IsFileRefused l files name body r → r ≡ NoMemory
-  accepted_or_refused r one w = way_accepted r one (way_of r w)
+  accepted_or_refused r one w = right_or_refused one.free one.valid.cited one.valid.valid.right r w
 
   one_way : (r s : LedgerRefusal) → IsTheList l.order l.equations → Way l files name body r → Way l files name body s → (r ≡ NoMemory) ⊎ ((s ≡ NoMemory) ⊎ (r ≡ s))
   one_way r s list (wanting e) v = inl e
@@ -134,7 +136,7 @@ module _ (l : LawList) (files : List File) (name : List ℕ) (body : FileBody) w
   one_way r s list (by_check x e free all w) (by_cite same v) = absurd (cites_right_or_refused files (hypothesis_of body) (cites_of body) s all v)
   one_way r s list (by_check x e free all w) (by_check y f same again v) =
       let one = one_offence l body (cited_goals files body) x y list w v in
-      inr (inr (e ∙ ap (λ z. Check (Checked.Replay z)) one ∙ sym f))
+      inr (inr (e ∙ ap Check one ∙ sym f))
 
   pub one_refusal : (r s : LedgerRefusal) → IsTheList l.order l.equations → IsFileRefused l files name body r → IsFileRefused l files name body s → (r ≡ NoMemory) ⊎ ((s ≡ NoMemory) ⊎ (r ≡ s))
   one_refusal r s list w v = one_way r s list (way_of r w) (way_of s v)

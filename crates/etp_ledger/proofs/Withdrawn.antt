@@ -39,9 +39,10 @@ module _ (laws : List Equation) (name : List ℕ) where
   one_shorter old new file agree stands uncited one = record {
     spelled = one.spelled;
     free = agree file.name own ∙ one.free;
-    listed = one.listed;
-    cited = all_from (StandsAsProof new (hypothesis_of file.body)) (cites_of file.body) (λ k cite h. subst (ProvesFrom (hypothesis_of file.body)) (sym (agree cite (apart k cite h))) (all_at (StandsAsProof old (hypothesis_of file.body)) (cites_of file.body) k cite one.cited h));
-    valid = subst (IsValidBody laws file.body) (map_same (λ cite. goal_in (body_named cite old)) (λ cite. goal_in (body_named cite new)) (cites_of file.body) (λ k cite h. ap goal_in (sym (agree cite (apart k cite h))))) one.valid;
+    valid = record {
+      cited = all_from (StandsAsProof new (hypothesis_of file.body)) (cites_of file.body) (λ k cite h. subst (ProvesFrom (hypothesis_of file.body)) (sym (agree cite (apart k cite h))) (all_at (StandsAsProof old (hypothesis_of file.body)) (cites_of file.body) k cite one.valid.cited h));
+      valid = subst (IsValidBody laws file.body) (map_same (λ cite. goal_in (body_named cite old)) (λ cite. goal_in (body_named cite new)) (cites_of file.body) (λ k cite h. ap goal_in (sym (agree cite (apart k cite h))))) one.valid.valid;
+    };
   }
     where
       own : file.name ≢ name

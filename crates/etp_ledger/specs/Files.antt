@@ -27,13 +27,18 @@ body_named name (file ∷ files) = cond (is_named name file) (Some file.body) (b
 abbrev pub Stands : List File → List ℕ → Type 0
 Stands files name = IsSome (body_named name files)
 
--- it is a proof from this hypothesis
-abbrev pub ProvesFrom : ℕ → Option FileBody → Type 0
+-- the fact is an implication from this hypothesis
+abbrev pub IsFrom : Option ℕ → Fact → Type 0
+IsFrom hypothesis (implies from goal) = hypothesis ≡ Some from
+IsFrom hypothesis (refutes holds fails) = ⊥
+
+-- a file stands, and it is a proof from this hypothesis
+abbrev pub ProvesFrom : Option ℕ → Option FileBody → Type 0
 ProvesFrom hypothesis None = ⊥
-ProvesFrom hypothesis (Some body) = (goal : ℕ) × (fact_said body ≡ implies hypothesis goal)
+ProvesFrom hypothesis (Some body) = IsFrom hypothesis (fact_said body)
 
 -- the name stands for a proof from this hypothesis
-abbrev pub StandsAsProof : List File → ℕ → List ℕ → Type 0
+abbrev pub StandsAsProof : List File → Option ℕ → List ℕ → Type 0
 StandsAsProof files hypothesis name = ProvesFrom hypothesis (body_named name files)
 
 -- the goal of an implication

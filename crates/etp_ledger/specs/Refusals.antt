@@ -1,25 +1,22 @@
 -- Why the ledger refuses.
-use Rattle.std.specs.Prelude.{◌≡◌, ◌≢◌, ◌⊎◌, ◌+◌, ℕ, List, Option, Some, None, All, slice_get, take}
-use Rattle.etp_theory.specs.Reach.{implies}
+use Rattle.std.specs.Prelude.{◌≡◌, ◌⊎◌, ◌+◌, ℕ, List, Option, Some, None, All, slice_get, take}
 use Rattle.etp_laws.specs.LawLists.{LawList}
 use Rattle.etp_items.specs.Bodies.{FileBody}
 use Rattle.etp_theory.specs.Numbered.{IsLaw}
 use Rattle.etp_check.specs.Checks.{fact_said, hypothesis_of, cites_of}
 use Rattle.etp_check.specs.Refusals.{IsBodyOffence}
-use Rattle.etp_check.specs.declared.refusal.CheckRefusal.{CheckRefusal}
-use Rattle.etp_check.specs.declared.refusal.CheckRefusal.TheVariants as Checked
-use Rattle.etp_ledger.specs.Files.{File, body_named, Stands, StandsAsProof, cited_goals}
+use Rattle.etp_ledger.specs.Files.{File, body_named, Stands, IsFrom, StandsAsProof, cited_goals}
 use Rattle.etp_ledger.specs.Withdrawing.{IsFirstCiting}
 use Rattle.etp_ledger.specs.declared.refusal.LedgerRefusal.{LedgerRefusal}
 use Rattle.etp_ledger.specs.declared.refusal.LedgerRefusal.TheVariants.{NameTaken, NoSuchName, Check, UnknownLaw, Cited, CiteMissing, CiteOther, NoMemory}
 
 -- a file that stands is no proof from the hypothesis
-abbrev pub ProvesOther : ℕ → Option FileBody → Type 0
+abbrev pub ProvesOther : Option ℕ → Option FileBody → Type 0
 ProvesOther hypothesis None = ⊥
-ProvesOther hypothesis (Some body) = (goal : ℕ) → fact_said body ≢ implies hypothesis goal
+ProvesOther hypothesis (Some body) = ¬ IsFrom hypothesis (fact_said body)
 
 -- the cite of this number names no file, or it names a file that is no proof from the hypothesis
-abbrev pub IsCiteRefused : List File → ℕ → List ℕ → ℕ → LedgerRefusal → Type 0
+abbrev pub IsCiteRefused : List File → Option ℕ → List ℕ → ℕ → LedgerRefusal → Type 0
 IsCiteRefused files hypothesis name number (CiteMissing cite) =
     (cite ≡ number) × (body_named name files ≡ None)
 IsCiteRefused files hypothesis name number (CiteOther cite) =
@@ -33,8 +30,8 @@ IsCiteRefused files hypothesis name number NoMemory = ⊥
 
 -- all cites before one stand for proofs from the hypothesis, and that one is refused; cites count
 -- from 1
-pub record IsFirstCiteRefused (files : List File) (hypothesis : ℕ) (names : List (List ℕ))
-    (r : LedgerRefusal) : Type 0 where
+pub record IsFirstCiteRefused (files : List File) (hypothesis : Option ℕ)
+    (names : List (List ℕ)) (r : LedgerRefusal) : Type 0 where
   pub place : ℕ
   pub name : List ℕ
   pub cited : slice_get names place ≡ Some name
@@ -42,16 +39,9 @@ pub record IsFirstCiteRefused (files : List File) (hypothesis : ℕ) (names : Li
   pub refused : IsCiteRefused files hypothesis name (place + 1) r
 
 -- want of memory, or the first cite that is refused
-abbrev pub AreCitesRefused : List File → ℕ → List (List ℕ) → LedgerRefusal → Type 0
+abbrev pub AreCitesRefused : List File → Option ℕ → List (List ℕ) → LedgerRefusal → Type 0
 AreCitesRefused files hypothesis names r =
     (r ≡ NoMemory) ⊎ IsFirstCiteRefused files hypothesis names r
-
--- all cites are right, and the body isn't valid with their goals
-abbrev pub IsOffence : LawList → List File → FileBody → CheckRefusal → Type 0
-IsOffence l files body (Checked.Replay r) =
-    All (StandsAsProof files (hypothesis_of body)) (cites_of body)
-    × IsBodyOffence l body (cited_goals files body) r
-IsOffence l files body Checked.NoMemory = ⊥
 
 -- the name stands; else the first wrong cite; else the body's first offence; want of memory may
 -- come for any file
@@ -63,7 +53,9 @@ IsFileRefused l files name body (CiteMissing cite) =
 IsFileRefused l files name body (CiteOther cite) =
     (body_named name files ≡ None)
     × IsFirstCiteRefused files (hypothesis_of body) (cites_of body) (CiteOther cite)
-IsFileRefused l files name body (Check r) = (body_named name files ≡ None) × IsOffence l files body r
+IsFileRefused l files name body (Check r) =
+    (body_named name files ≡ None) × All (StandsAsProof files (hypothesis_of body)) (cites_of body)
+    × IsBodyOffence l body (cited_goals files body) r
 IsFileRefused l files name body NoMemory = Unit {0}
 IsFileRefused l files name body NoSuchName = ⊥
 IsFileRefused l files name body (UnknownLaw number) = ⊥

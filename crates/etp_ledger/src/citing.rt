@@ -1,11 +1,11 @@
 // Files that cite others.
-ghost use Rattle.std.specs.Prelude.{◌≡◌, ◌≢◌, ◌<◌, ◌^◌, ◌↔◌, ℕ, All, Contains, IsTrue, IfOk, IfErr, OnOk, MatchOption, Some, length, map, slice_get};
+ghost use Rattle.std.specs.Prelude.{◌≡◌, ◌<◌, ◌^◌, ◌↔◌, All, Contains, IsTrue, IfOk, IfErr, OnOk, MatchOption, Some, length, map, slice_get};
 ghost use Rattle.std.specs.Option.{option_map};
 ghost use Rattle.etp_theory.specs.Reach.{implies};
 ghost use Rattle.etp_closure.specs.Facts.{fact_of};
 ghost use Rattle.etp_items.specs.Bodies.{body_of};
 ghost use Rattle.etp_check.specs.Checks.{hypothesis_of, cites_of};
-ghost use Rattle.etp_ledger.specs.Files.{body_named, goal_in, cited_goals, StandsAsProof};
+ghost use Rattle.etp_ledger.specs.Files.{body_named, IsFrom, goal_in, cited_goals, StandsAsProof};
 ghost use Rattle.etp_ledger.specs.Withdrawing.{Cites as CitesName, IsFirstCiting};
 ghost use Rattle.etp_ledger.specs.Refusals.{IsCiteRefused, AreCitesRefused};
 ghost use Rattle.etp_ledger.specs.Kept.{files_of};
@@ -47,8 +47,8 @@ fn goals_of(
     cites: &Cites,
 ) -> Result<Vec<u32>, LedgerRefusal>
     ensures goals { IfOk result (λ goals. goals.items ≡ map (λ name. goal_in (body_named name (files_of files.now.entries))) cites.now) }
-    ensures ok { OnOk result (All (StandsAsProof (files_of files.now.entries) hypothesis) cites.now) }
-    ensures err { IfErr result (λ r. AreCitesRefused (files_of files.now.entries) hypothesis cites.now r) }
+    ensures ok { OnOk result (All (StandsAsProof (files_of files.now.entries) (Some hypothesis)) cites.now) }
+    ensures err { IfErr result (λ r. AreCitesRefused (files_of files.now.entries) (Some hypothesis) cites.now r) }
 {
     let mut goals = Vec::with_capacity(alloc, cites.len() as usize)?;
     for at in 0..cites.len() {
@@ -60,8 +60,8 @@ fn goals_of(
 // The goal of the file that the cite of this number names.
 fn goal_of(files: &Files, hypothesis: u32, name: &[u8], number: u32) -> Result<u32, LedgerRefusal>
     ensures goal { IfOk result (λ goal. goal ≡ goal_in (body_named name.now (files_of files.now.entries))) }
-    ensures ok { OnOk result (StandsAsProof (files_of files.now.entries) hypothesis name.now) }
-    ensures err { IfErr result (λ r. IsCiteRefused (files_of files.now.entries) hypothesis name.now number r) }
+    ensures ok { OnOk result (StandsAsProof (files_of files.now.entries) (Some hypothesis) name.now) }
+    ensures err { IfErr result (λ r. IsCiteRefused (files_of files.now.entries) (Some hypothesis) name.now number r) }
 {
     match find(files, name) {
         None => Err(LedgerRefusal::CiteMissing { cite: number }),
@@ -74,7 +74,7 @@ fn goal_of(files: &Files, hypothesis: u32, name: &[u8], number: u32) -> Result<u
 
 // The goal of a fact that is an implication from this hypothesis.
 fn goal_from(fact: &Fact, hypothesis: u32) -> Option<u32>
-    ensures { MatchOption result ((goal : ℕ) → fact_of fact.now ≢ implies hypothesis goal) (λ goal. fact_of fact.now ≡ implies hypothesis goal) }
+    ensures { MatchOption result (¬ IsFrom (Some hypothesis) (fact_of fact.now)) (λ goal. fact_of fact.now ≡ implies hypothesis goal) }
 {
     match fact {
         Fact::Implies {

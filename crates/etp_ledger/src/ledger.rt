@@ -1,18 +1,18 @@
-ghost use Rattle.std.specs.Prelude.{◌≡◌, ◌<◌, ◌≤◌, ◌++◌, ◌∷◌, ℕ, List, [], IfOk, IfErr, IfSome, OnOk, OnErr, IsTrue, ◌↔◌, MatchOption, Some, length, position, slice_get};
+ghost use Rattle.std.specs.Prelude.{◌≡◌, ◌<◌, ◌≤◌, ◌++◌, ◌∷◌, List, [], IfOk, IfErr, IfSome, OnOk, OnErr, IsTrue, ◌↔◌, MatchOption, Some, length, position, slice_get};
 ghost use Rattle.etp_theory.specs.Trees.{Equation};
 ghost use Rattle.etp_laws.specs.Listing.{IsTheList};
 ghost use Rattle.etp_laws.specs.LawLists.{AreDuals};
 ghost use Rattle.etp_theory.specs.Numbered.{IsLaw};
-ghost use Rattle.etp_closure.specs.Closures.{StandsFor, is_reached, is_covered};
+ghost use Rattle.etp_closure.specs.Closures.{StandsFor};
 ghost use Rattle.etp_closure.specs.Answers.{Says};
 ghost use Rattle.etp_closure.specs.Facts.{fact_of};
 ghost use Rattle.etp_items.specs.Bodies.{body_of};
 ghost use Rattle.etp_check.specs.Checks.{fact_said, IsListedBody, HasContent};
 ghost use Rattle.etp_ledger.specs.Files.{facts_of, is_named};
-ghost use Rattle.etp_ledger.specs.Accepting.{IsAccepted, AreAccepted};
+ghost use Rattle.etp_ledger.specs.Accepting.{IsAccepted, AreAccepted, IsValidFor};
 ghost use Rattle.etp_ledger.specs.Withdrawing.{IsWithdrawn};
 ghost use Rattle.etp_ledger.specs.Refusals.{IsFileRefused, IsWithdrawalRefused, IsQuestionRefused};
-ghost use Rattle.etp_ledger.specs.Asking.{Means};
+ghost use Rattle.etp_ledger.specs.Asking.{Means, ClosureMeans};
 ghost use Rattle.etp_ledger.specs.Ledgers.{IsUnchanged};
 
 use crate::citing::{find, first_citing, goals_cited};
@@ -146,6 +146,7 @@ impl Ledger {
     pub fn file(&self, at: u32) -> Option<(&[u8], &Body, &Fact)>
         ensures file { MatchOption result (length self.now.files ≤ at) (λ shown. slice_get self.now.files at ≡ Some (record { name = shown.0.now; body = body_of shown.1.now })) }
         ensures fact { IfSome result (λ shown. fact_of shown.2.now ≡ fact_said (body_of shown.1.now)) }
+        ensures valid { IfSome result (λ shown. IsValidFor self.now.order self.now.files (body_of shown.1.now)) }
         ensures accepted { (laws : List Equation) → IsTheList self.now.order laws → AreAccepted laws self.now.files }
     {
         match self.files.get_index(at as usize) {
@@ -169,7 +170,7 @@ impl Ledger {
         ensures value { result.now ≡ self.now.closure }
         ensures stands { StandsFor self.now.closure (facts_of self.now.files) }
         ensures duals { (laws : List Equation) → IsTheList self.now.order laws → AreDuals laws self.now.closure.duals }
-        ensures never_both { (laws : List Equation) → IsTheList self.now.order laws → (e f : ℕ) → IsTrue (is_reached self.now.closure e f) → IsTrue (is_covered self.now.closure e f) → ⊥ }
+        ensures means { ClosureMeans self.now.order self.now.closure }
     {
         &self.closure
     }

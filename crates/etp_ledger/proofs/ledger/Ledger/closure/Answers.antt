@@ -1,8 +1,6 @@
-use Rattle.etp_ledger.proofs.Meaning.{seen, not_both}
+use Rattle.etp_ledger.proofs.Meaning.{seen, closure_means}
 use Rattle.etp_ledger.proofs.ledger.Ledger.closure.Goals as goal
 
-pub returns-clause-never_both : goal.returns-clause-never_both
-returns-clause-never_both c = λ laws list e f r v.
-    let now = c.args.self.now in
-    let l = seen _ now c.self.view_is c.self.invariant in
-    not_both now.order now.files now.closure l laws list e f r v
+pub returns-clause-means : goal.returns-clause-means
+returns-clause-means c =
+    let now = c.args.self.now in closure_means now.order now.files now.closure (seen _ now c.self.view_is c.self.invariant)
