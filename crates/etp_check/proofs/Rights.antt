@@ -8,7 +8,7 @@ use Rattle.etp_theory.specs.Derivations.{Derives}
 use Rattle.etp_theory.specs.Proofs.{AllDerived}
 use Rattle.etp_theory.specs.Numbered.{IsLaw, law_numbered}
 use Rattle.etp_theory.specs.RightFacts.{Implies}
-use Rattle.etp_theory.proofs.Proofs.{proved}
+use Rattle.etp_theory.proofs.Theorems.{proof_laws}
 use Rattle.etp_laws.specs.Listing.{trivial}
 use Rattle.etp_laws.proofs.Entries.{entry_zero}
 use Rattle.etp_replay.specs.Validity.{law_at}
@@ -47,7 +47,7 @@ right_fact laws (proof p) cited valid implied = record {
   goal_listed = listed_law laws p.goal valid.listed.goal_listed;
   derived =
       let right = λ (n : ℕ) (there : Contains cited n). All-contains (Implies laws p.hypothesis) cited n implied there in
-      proved (law_at laws p.hypothesis) (map (law_at laws) cited) (all_derived laws p.hypothesis cited valid.listed.hypothesis_listed right) (law_at laws p.goal) p.lemmas valid.right;
+      proof_laws.proved (law_at laws p.hypothesis) (law_at laws p.goal) (map (law_at laws) cited) p.lemmas (all_derived laws p.hypothesis cited valid.listed.hypothesis_listed right) valid.right;
 }
 
 -- a listed number is one of the list's laws

@@ -14,7 +14,7 @@ use Rattle.etp_check.specs.Checks.{IsValidBody}
 pub valid_body_short : (laws : List Equation) (cited : List ℕ) (count : ℕ) (lines : List LineText) (closed : Bool) (body : FileBody)
     → IsReadBody count lines closed body → IsValidBody laws body cited → IsShortBody body
 valid_body_short laws cited count lines closed (proof p) read valid =
-    Lines.valid_body_short (law_at laws p.hypothesis) (law_at laws p.goal) (map (law_at laws) cited) p valid (body_writable lines (proof p) read.is_body)
+    Lines.valid_body_short (law_at laws p.hypothesis) (law_at laws p.goal) (map (law_at laws) cited) p valid.right (body_writable lines (proof p) read.is_body)
 
 pub valid_body_reads : (laws : List Equation) (cited : List ℕ) (count : ℕ) (lines : List LineText) (closed : Bool) (body : FileBody)
     → IsReadBody count lines closed body → IsValidBody laws body cited → IsReadBody count (lines_of (written_body body)) true body

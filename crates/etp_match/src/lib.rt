@@ -8,7 +8,7 @@ mod table;
 
 pub use matching::{Matched, match_onto};
 pub use replacing::replace_at;
-pub use subst::{Binding, Subst};
+pub use subst::Subst;
 pub use table::Bindings;
 
 #[cfg(test)]

@@ -1,4 +1,4 @@
-ghost use Rattle.std.specs.Prelude.{◌≡◌, ◌++◌, ◌∷◌, [], IfOk, OnOk, OnErr, None, map};
+ghost use Rattle.std.specs.Prelude.{◌≡◌, ◌++◌, [], IfOk, OnOk, OnErr, map};
 ghost use Rattle.std.specs.Option.{option_copied, option_map};
 ghost use Rattle.etp_theory.specs.Substitutions.{apply, total};
 ghost use Rattle.etp_term.specs.Terms.{tree_of};
@@ -11,7 +11,7 @@ use std::marker::Model;
 
 /// A variable and the term that stands for it.
 #[derive(Drop)]
-pub struct Binding {
+pub(crate) struct Binding {
     pub variable: u8,
     pub value: Term,
 }
@@ -74,16 +74,6 @@ impl Subst {
         ensures { result.now ≡ self.now }
     {
         self.bindings.as_slice()
-    }
-
-    /// Gives a value to a variable that has none.
-    pub fn bind(&mut self, variable: u8, value: Term) -> Result<(), NoMemory>
-        requires { (partial_of self.old).value variable ≡ None }
-        ensures ok { OnOk result (self.new ≡ self.old ++ (record { variable = variable; value = value }) ∷ []) }
-        ensures err { OnErr result (self.new ≡ self.old) }
-    {
-        self.bindings.push(Binding { variable, value })?;
-        Ok(())
     }
 
     /// Appends values of further variables.

@@ -57,8 +57,9 @@ fn both_sides_are_matched_with_one_map(rt: HostRuntime) {
 
 #[test]
 fn a_bound_variable_has_its_value(rt: HostRuntime) {
-    let mut subst = Subst::empty(rt.alloc()).expect(&rt, "memory");
-    subst.bind(3, Term::Var(7)).expect(&rt, "memory");
+    let alloc = rt.alloc();
+    let mut subst = Subst::empty(alloc).expect(&rt, "memory");
+    match_onto(alloc, &Term::Var(3), &Term::Var(7), &mut subst).expect(&rt, "memory");
     let value = subst.get(3).expect(&rt, "a value");
     assert!(rt; value.same_term(&Term::Var(7)));
 }

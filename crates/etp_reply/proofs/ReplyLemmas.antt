@@ -2,7 +2,7 @@
 use Rattle.std.proofs.Common.{◌≡◌, ℕ, ◌+◌, ◌≤◌, min, List, ◌++◌, Bool, true, refl, ap, ◌∙◌, arith, None, Some}
 use Rattle.std.specs.Prelude.{codes, decimal}
 use Rattle.etp_theory.specs.Trees.{Tree, Equation, ops, leaves, law_ops}
-use Rattle.etp_theory.proofs.Orders.{leaves_ops}
+use Rattle.etp_theory.proofs.Theorems.{term_laws}
 use Rattle.etp_theory.specs.Numbered.{law_numbered}
 use Rattle.etp_laws.specs.LawLists.{LawList}
 use Rattle.etp_laws.specs.Numbers.{IsNumbered}
@@ -41,7 +41,7 @@ pub numbered-is : (l : LawList) (p : Equation) (n line : ℕ) (text : List ℕ) 
 numbered-is l p n line text flag h i = record { reply = law_reply n (law_numbered l.equations n); is = numbered n h.0 h.2 refl; text_is = i.0; refused_is = i.1 }
 
 few_ops : (t : Tree) → leaves t ≤ side_limit → min (ops t) 65536 ≡ ops t
-few_ops t h = let e = leaves_ops t in omega (arith, e, h)
+few_ops t h = let e = term_laws.leaves_ops t in omega (arith, e, h)
 
 pub numbered-many : (l : LawList) (p : Equation) (n line : ℕ) (text : List ℕ) (flag : Bool) → IsNumbered l p (TooManyOps n) → leaves p.left ≤ side_limit → leaves p.right ≤ side_limit
     → (text ≡ reply_text line (refused (codes "operations " ++ decimal n))) × (flag ≡ true) → Gives line text flag (NumberedReply l.order l.equations p)

@@ -1,9 +1,10 @@
-ghost use Rattle.std.specs.Prelude.{◌≡◌, ◌<◌, ◌≤◌, ◌+◌, ◌++◌, ◌^◌, ◌↔◌, IsTrue, IfOk, OnOk, MatchOption, None, Some, length, min};
+ghost use Rattle.std.specs.Prelude.{◌≡◌, ◌<◌, ◌≤◌, ◌+◌, ◌++◌, ◌^◌, ◌↔◌, IsTrue, IfOk, OnOk, OnErr, MatchOption, None, Some, length, min};
 ghost use Rattle.std.specs.Ordering.{nat_cmp};
 ghost use Rattle.std.specs.Cmp.Lexicographic.{slice_cmp};
 ghost use Rattle.etp_theory.specs.Trees.{ops, leaves, shape_of, word_of};
 ghost use Rattle.etp_theory.specs.Positions.{sub_at};
 ghost use Rattle.etp_theory.specs.Orders.{shape_cmp};
+ghost use Rattle.etp_term.specs.Growth.{BeginsWith};
 ghost use Rattle.etp_term.specs.Terms.{tree_of};
 ghost use Rattle.etp_term.specs.Sides.{position_of};
 
@@ -96,7 +97,7 @@ impl Term {
     }
 
     /// The order of the words of two terms of one shape: variable by variable, from left to right.
-    pub fn word_cmp(&self, other: &Term) -> Ordering
+    pub(crate) fn word_cmp(&self, other: &Term) -> Ordering
         ensures { shape_of (tree_of self.now) ≡ shape_of (tree_of other.now) → result ≡ slice_cmp nat_cmp (word_of (tree_of self.now)) (word_of (tree_of other.now)) }
     {
         match (self, other) {
@@ -109,9 +110,11 @@ impl Term {
         }
     }
 
-    /// Appends the term's variables, from left to right. After an error a part of them may stand.
-    pub fn append_word(&self, word: &mut Word) -> Result<(), AllocError>
-        ensures { OnOk result (word.new ≡ word.old ++ word_of (tree_of self.now)) }
+    /// Appends the term's variables, from left to right. After an error a part of them may stand behind
+    /// what stood before.
+    pub(crate) fn append_word(&self, word: &mut Word) -> Result<(), AllocError>
+        ensures ok { OnOk result (word.new ≡ word.old ++ word_of (tree_of self.now)) }
+        ensures err { OnErr result (BeginsWith word.new word.old) }
     {
         match self {
             Term::Var(v) => word.append(*v),

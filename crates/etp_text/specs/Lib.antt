@@ -1,5 +1,4 @@
 pub mod Written
-pub mod Growth
 pub mod Grammar
 pub mod Refusals
 pub mod Machine

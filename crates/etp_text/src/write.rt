@@ -1,9 +1,9 @@
 ghost use Rattle.std.specs.Prelude.{◌≡◌, ◌≤◌, ◌++◌, OnOk, OnErr, IfOk};
 ghost use Rattle.etp_theory.specs.Trees.{bound};
+ghost use Rattle.etp_term.specs.Growth.{BeginsWith};
 ghost use Rattle.etp_term.specs.Terms.{tree_of};
 ghost use Rattle.etp_term.specs.Laws.{equation_of};
 ghost use Rattle.etp_text.specs.Grammar.{SpellsTerm, SpellsLaw};
-ghost use Rattle.etp_text.specs.Growth.{BeginsWith};
 ghost use Rattle.etp_text.specs.Written.{variable_name, written_part, written_term, written_law};
 
 use crate::text::Text;

@@ -24,6 +24,7 @@ pub mod General
 pub mod Ends
 pub mod Failing
 pub mod Reaching
+pub mod Theorems
 pub mod Examples
 pub mod FirstExample
 pub mod LimitExamples

@@ -1,4 +1,4 @@
--- Texts that grow at their end.
+-- Lists that grow at their end.
 use Rattle.std.specs.Prelude.{◌≡◌, ℕ, List, length, take}
 
 -- what stood before stands at the front
