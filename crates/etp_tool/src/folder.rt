@@ -10,7 +10,8 @@ use std::{io, str};
 /// The files of the working folder. It tells nothing of content.
 ///
 /// A name has letters, digits, `.`, `_` and `-` alone and begins with a letter or a digit, so that
-/// it can't leave the folder; any other name is a fault. The file that was read last stays open.
+/// it can't leave the folder; any other name is a fault. A file is opened anew where it is read from
+/// its start, and stays open for the reads that follow.
 #[derive(Drop)]
 pub struct FolderShelf<'a, R: Files> {
     files: &'a R,
@@ -39,14 +40,14 @@ impl<'a, R: Files> FolderShelf<'a, R> {
         }
     }
 
-    // Opens the file of this name, where it isn't the one that is open.
-    fn open(&mut self, name: &[u8]) -> io::Result<()>
+    // Opens the file of this name, where the read is from its start or another file is open.
+    fn open(&mut self, name: &[u8], at: u64) -> io::Result<()>
         requires { length name.now ≤ 64 }
         ensures faults { self.new.faults ≡ self.old.faults }
         ensures given { self.new.given ≡ self.old.given }
         ensures failed { self.new.failed ≡ self.old.failed }
     {
-        if self.opened.is_some() && self.name.is(name) {
+        if at != 0 && self.opened.is_some() && self.name.is(name) {
             return Ok(());
         }
         self.opened = None;
@@ -69,7 +70,7 @@ impl<'a, R: Files> FolderShelf<'a, R> {
         ensures given { self.new.given ≡ self.old.given }
         ensures failed { self.new.failed ≡ self.old.failed }
     {
-        self.open(name)?;
+        self.open(name, at)?;
         let Some(file) = &mut self.opened else {
             return Err(io::Error::from(io::ErrorKind::NotFound));
         };
@@ -140,5 +141,21 @@ mod tests {
         assert!(rt; shelf.read_at(b"none", 0, &mut buf) == Err(Failed));
         assert!(rt; shelf.read_at(b"../shelf-test", 0, &mut buf) == Err(Failed));
         assert!(rt; shelf.faults == 2 && shelf.given == 10 && shelf.failed.is(b"../shelf-test"));
+    }
+
+    #[test]
+    fn a_file_is_opened_anew_where_it_is_read_from_its_start(rt: HostRuntime) {
+        fs::write(&rt, "shelf-anew", "before").expect(&rt, "a file");
+        let mut shelf = FolderShelf::new(&rt);
+        let mut buf = [0; 8];
+        assert!(rt; shelf.read_at(b"shelf-anew", 0, &mut buf) == Ok(6));
+        fs::write(&rt, "shelf-next", "then").expect(&rt, "a file");
+        fs::rename(&rt, "shelf-next", "shelf-anew").expect(&rt, "another file of the name");
+        assert!(rt; shelf.read_at(b"shelf-anew", 6, &mut buf) == Ok(0));
+        assert!(rt; shelf.read_at(b"shelf-anew", 0, &mut buf) == Ok(4));
+        assert!(rt; buf[..4] == b"then"[..]);
+        fs::remove_file(&rt, "shelf-anew").expect(&rt, "no file of the name");
+        assert!(rt; shelf.read_at(b"shelf-anew", 0, &mut buf) == Err(Failed));
+        assert!(rt; shelf.faults == 1 && shelf.given == 10 && shelf.failed.is(b"shelf-anew"));
     }
 }
