@@ -1,7 +1,6 @@
 -- The replies about files and about pairs of laws are one each.
 use Rattle.std.proofs.Common.{◌≡◌, ℕ, zero, suc, ◌+◌, inl, inr, List, ◌++◌, length, refl, sym, ◌∙◌, ap, Bool}
 use Rattle.std.specs.Prelude.{codes, decimal}
-use Rattle.etp_bits.specs.Counts.{count_below}
 use Rattle.etp_theory.specs.Reach.{Fact}
 use Rattle.etp_theory.specs.Numbered.{IsLaw}
 use Rattle.etp_closure.specs.Answers.{Says}
@@ -9,7 +8,7 @@ use Rattle.etp_closure.specs.declared.facts.Answer.{Answer}
 use Rattle.etp_closure.specs.declared.facts.Answer.TheVariants.{Implied, Refuted, Unsettled}
 use Rattle.etp_ledger.specs.Refusals.{IsQuestionRefused}
 use Rattle.etp_ledger.specs.declared.refusal.LedgerRefusal.TheVariants.{UnknownLaw}
-use Rattle.etp_report.specs.Pairs.{sum_below, is_same}
+use Rattle.etp_report.specs.Pairs.{how_many, sum_below, is_same}
 use Rattle.etp_reply.specs.Texts.{Reply, answered, refused}
 use Rattle.etp_reply.specs.States.{Opened}
 use Rattle.etp_reply.specs.LedgerReplies.{AskReply, unknown, known, CountsReply, pairs_with, pair_line, answer_text}
@@ -43,9 +42,9 @@ ask_reply-only o e f r s (unknown m h x) (known b p q i k y) = absurd (question-
 ask_reply-only o e f r s (known a p q h k x) (unknown n i y) = absurd (question-known _ e f n p q i)
 ask_reply-only o e f r s (known a p q h k x) (known b p' q' i k' y) = x ∙ ap (λ c. answered (pair_line e f (answer_text c))) (Says-only _ _ e f a b h i) ∙ sym y
 
-count_below-same : (p q : ℕ → Bool) → ((k : ℕ) → p k ≡ q k) → (n : ℕ) → count_below p n ≡ count_below q n
-count_below-same p q h zero = refl
-count_below-same p q h (suc n) = rw (h n, count_below-same p q h n) refl
+how_many-same : (p q : ℕ → Bool) → ((k : ℕ) → p k ≡ q k) → (n : ℕ) → how_many p n ≡ how_many q n
+how_many-same p q h zero = refl
+how_many-same p q h (suc n) = rw (h n, how_many-same p q h n) refl
 
 sum_below-same : (p q : ℕ → ℕ) → ((k : ℕ) → p k ≡ q k) → (n : ℕ) → sum_below p n ≡ sum_below q n
 sum_below-same p q h zero = refl
@@ -54,8 +53,8 @@ sum_below-same p q h (suc n) = rw (h n, sum_below-same p q h n) refl
 -- the counts of equal answers are equal
 pairs_with-same : (p q : ℕ → ℕ → Answer) → ((e f : ℕ) → p e f ≡ q e f) → (a : Answer) (n : ℕ) → pairs_with p a n ≡ pairs_with q a n
 pairs_with-same p q h a n =
-    sum_below-same (λ place. count_below (λ other. is_same (p (place + 1) (other + 1)) a) n) (λ place. count_below (λ other. is_same (q (place + 1) (other + 1)) a) n)
-    (λ place. count_below-same (λ other. is_same (p (place + 1) (other + 1)) a) (λ other. is_same (q (place + 1) (other + 1)) a) (λ other. ap (λ b. is_same b a) (h (place + 1) (other + 1))) n) n
+    sum_below-same (λ place. how_many (λ other. is_same (p (place + 1) (other + 1)) a) n) (λ place. how_many (λ other. is_same (q (place + 1) (other + 1)) a) n)
+    (λ place. how_many-same (λ other. is_same (p (place + 1) (other + 1)) a) (λ other. is_same (q (place + 1) (other + 1)) a) (λ other. ap (λ b. is_same b a) (h (place + 1) (other + 1))) n) n
 
 pub counts_reply-only : (o : Opened) (r s : Reply) → CountsReply o r → CountsReply o s → r ≡ s
 counts_reply-only o r s h i =

@@ -1,6 +1,5 @@
 -- The replies about the files that stand and about pairs of laws.
 use Rattle.std.specs.Prelude.{◌≡◌, ℕ, ◌+◌, List, [], ◌∷◌, ◌++◌, codes, decimal, length, slice_get, None, Some}
-use Rattle.etp_bits.specs.Counts.{count_below}
 use Rattle.etp_theory.specs.Numbered.{IsLaw}
 use Rattle.etp_closure.specs.Answers.{Says}
 use Rattle.etp_closure.specs.declared.facts.Answer.{Answer}
@@ -12,7 +11,7 @@ use Rattle.etp_ledger.specs.Asking.{Means}
 use Rattle.etp_ledger.specs.Refusals.{IsQuestionRefused}
 use Rattle.etp_ledger.specs.Withdrawing.{IsWithdrawn, IsFirstCiting}
 use Rattle.etp_ledger.specs.declared.refusal.LedgerRefusal.TheVariants.{UnknownLaw}
-use Rattle.etp_report.specs.Pairs.{sum_below, is_same}
+use Rattle.etp_report.specs.Pairs.{how_many, sum_below, is_same}
 use Rattle.etp_reply.specs.Texts.{Reply, answered, refused}
 use Rattle.etp_reply.specs.States.{Opened}
 
@@ -37,7 +36,7 @@ pub data AskReply (o : Opened) (e f : ℕ) (reply : Reply) : Type 0 where
 -- how many pairs of the laws 1 to n have the answer
 abbrev pub pairs_with : (ℕ → ℕ → Answer) → Answer → ℕ → ℕ
 pairs_with answer_to answer n =
-    sum_below (λ place. count_below (λ other. is_same (answer_to (place + 1) (other + 1)) answer) n) n
+    sum_below (λ place. how_many (λ other. is_same (answer_to (place + 1) (other + 1)) answer) n) n
 
 abbrev pub counts_line : ℕ → ℕ → ℕ → List ℕ
 counts_line a b c =

@@ -1,5 +1,5 @@
 -- The counts of the three answers, row by row.
-use Rattle.std.proofs.Common.{◌≡◌, ℕ, zero, suc, ◌+◌, ◌*◌, ◌<◌, ◌≤◌, ◌&&◌, not, Bool, true, false, if◌then◌else◌, refl, sym, arith, length, ◌^◌, zero-mul, suc-mul, mul-le-mul, ◌↔◌, IsTrue, true≢false, List}
+use Rattle.std.proofs.Common.{◌≡◌, ℕ, zero, suc, ◌+◌, ◌*◌, ◌<◌, ◌≤◌, ◌&&◌, not, Bool, true, false, if◌then◌else◌, refl, sym, ◌∙◌, arith, length, ◌^◌, zero-mul, suc-mul, mul-le-mul, ◌↔◌, IsTrue, true≢false, List}
 use Rattle.etp_bits.specs.Counts.{count_below}
 use Rattle.etp_bits.proofs.Counting.{count_below-same}
 use Rattle.etp_theory.specs.Reach.{Fact, Reach, Covers}
@@ -7,7 +7,7 @@ use Rattle.etp_closure.specs.Closures.{Known, is_reached, is_covered, StandsFor}
 use Rattle.etp_closure.specs.Answers.{answer_of, Says}
 use Rattle.etp_closure.specs.declared.facts.Answer.{Answer}
 use Rattle.etp_closure.specs.declared.facts.Answer.TheVariants.{Implied, Refuted, Unsettled}
-use Rattle.etp_report.specs.Pairs.{is_same, sum_below, laws_answered, pairs_answered}
+use Rattle.etp_report.specs.Pairs.{is_same, how_many, sum_below, laws_answered, pairs_answered}
 
 -- what the answer to a pair is, by both truth values
 implied_if : (r c : Bool) → is_same (if r then Implied else (if c then Refuted else Unsettled)) Implied ≡ r
@@ -21,17 +21,22 @@ refuted_if true false = refl
 refuted_if false true = refl
 refuted_if false false = refl
 
+-- a row of bits counts as many
+counts-how_many : (p : ℕ → Bool) (n : ℕ) → count_below p n ≡ how_many p n
+counts-how_many p zero = refl
+counts-how_many p (suc n) = rw (counts-how_many p n) refl
+
 pub row_implied : (known : Known) (e : ℕ) → count_below (λ place. is_reached known e (place + 1)) (length known.duals) ≡ laws_answered known Implied e
-row_implied known e = count_below-same _ _ (length known.duals) (λ i h. sym (implied_if (is_reached known e (i + 1)) (is_covered known e (i + 1))))
+row_implied known e = count_below-same _ _ (length known.duals) (λ i h. sym (implied_if (is_reached known e (i + 1)) (is_covered known e (i + 1)))) ∙ counts-how_many _ (length known.duals)
 
 pub row_refuted : (known : Known) (e : ℕ) → count_below (λ place. is_covered known e (place + 1) && not (is_reached known e (place + 1))) (length known.duals) ≡ laws_answered known Refuted e
-row_refuted known e = count_below-same _ _ (length known.duals) (λ i h. sym (refuted_if (is_reached known e (i + 1)) (is_covered known e (i + 1))))
+row_refuted known e = count_below-same _ _ (length known.duals) (λ i h. sym (refuted_if (is_reached known e (i + 1)) (is_covered known e (i + 1)))) ∙ counts-how_many _ (length known.duals)
 
 module _ (known : Known) (e : ℕ) where
   one_answer : (i : ℕ) → (if is_same (answer_of known e (i + 1)) Implied then 1 else 0) + (if is_same (answer_of known e (i + 1)) Refuted then 1 else 0) + (if is_same (answer_of known e (i + 1)) Unsettled then 1 else 0) ≡ 1
   one_answer i = elim (answer_of known e (i + 1)) as (λ a. (if is_same a Implied then 1 else 0) + (if is_same a Refuted then 1 else 0) + (if is_same a Unsettled then 1 else 0) ≡ 1) [ Implied ↦ refl | Refuted ↦ refl | Unsettled ↦ refl ]
 
-  all_below : (n : ℕ) → count_below (λ i. is_same (answer_of known e (i + 1)) Implied) n + count_below (λ i. is_same (answer_of known e (i + 1)) Refuted) n + count_below (λ i. is_same (answer_of known e (i + 1)) Unsettled) n ≡ n
+  all_below : (n : ℕ) → how_many (λ i. is_same (answer_of known e (i + 1)) Implied) n + how_many (λ i. is_same (answer_of known e (i + 1)) Refuted) n + how_many (λ i. is_same (answer_of known e (i + 1)) Unsettled) n ≡ n
   all_below zero = refl
   all_below (suc n) = omega (arith, all_below n, one_answer n)
 

@@ -18,7 +18,7 @@ use Rattle.etp_reply.specs.Texts.{reply_text, is_refusal}
 use Rattle.etp_reply.specs.States.{State, unopened}
 use Rattle.etp_reply.specs.Shelves.{KnownShelf}
 use Rattle.etp_reply.specs.Replies.{Reaches, answered_line}
-use Rattle.etp_session.specs.Sessions.{Item, Session, IsWholeSession, AnswersLines, StopsAtLoad, BeginsInLines, Begins, in_lines, at_end, items_from, items_of}
+use Rattle.etp_session.specs.Sessions.{Item, Session, IsWholeSession, AnswersLines, StopsAtLoad, ReachesShelf, BeginsInLines, Begins, in_lines, at_end, items_from, items_of}
 use Rattle.etp_session.specs.declared.serving.Ending.{Ending}
 use Rattle.etp_session.specs.declared.serving.Ending.TheVariants.{Done, ReadFault, WriteFault, NoMemory, TooMuch}
 use Rattle.etp_reply.specs.Given.{GivesReply, GivesClose}
@@ -245,11 +245,24 @@ KnownSofar-stops s number (Some bytes) None held text bad state taken taken' las
 KnownSofar-stops s number (Some bytes) (Some left) held text bad state taken taken' last h l n small later =
     stopped s number bytes h.part held left text bad state taken taken' last h.joined (h.newline refl) l.0 l.1 h.session n small later
 
+-- a count that rose twice
+rises-more : (g0 g g' n n' : ℕ) → RisesBy g0 g n → RisesBy g g' (n' - n) → n ≤ n' → RisesBy g0 g' n'
+rises-more g0 g g' n n' h r le = record {
+  later = omega (arith, h.later, r.later);
+  risen = omega (arith, h.risen, r.risen);
+  no_further = omega (arith, h.no_further, r.no_further, le);
+  stands = λ b. r.stands (h.stands b);
+}
+
+-- a count that stood
+pub rises-by_none : (g : ℕ) → RisesBy g g 0
+rises-by_none g = record { later = omega arith; risen = omega arith; no_further = omega arith; stands = λ b. b }
+
 pub takes-more : (told left left' : Option (List ℕ)) (g0 g g' n n' : ℕ) → Takes told left g0 g n → Loses left left' (n' - n) → RisesBy g g' (n' - n) → n ≤ n'
     → Takes told left' g0 g' n'
 takes-more told left left' g0 g g' n n' h l r le =
     let e : n + (n' - n) ≡ n' = omega arith in
-    record { loses = rw e at (Loses-then told left left' n (n' - n) h.loses l); risen = omega (arith, h.risen, r.risen) }
+    record { loses = rw e at (Loses-then told left left' n (n' - n) h.loses l); counted = rises-more g0 g g' n n' h.counted r le }
 
 pub starts-running : (s : KnownShelf) (told : Option (List ℕ)) (last : ℕ) (took : Option (List ℕ)) (given : ℕ) (reader : Reader)
     → reader ≡ record { limit = s.limit; taken = 0; number = 0; held = []; line = []; ended = false; fault = None }
@@ -266,7 +279,7 @@ starts-running s told last took given reader e IsNow now = rw e (record {
   limited = refl;
   counted = omega arith;
   within = omega arith;
-  takes = record { loses = Loses-none told; risen = omega arith };
+  takes = record { loses = Loses-none told; counted = rises-by_none given };
 })
   where
     false_is_true : false ≡ true → ⊥
@@ -527,3 +540,40 @@ stops-at_name s told left left' last took0 took g0 g g' r r' bad next name IsNow
       written = h.written;
       stops = KnownSofar-name s r.ended r'.ended r.number r'.number told (to_come r left) left' r'.held h.text bad (line_text next r'.line) h.state r'.taken name h.sofar (rw one at (lines h.fits)) (rw one at number) takes.loses reach;
     }
+
+-- a line was read whose `load` reaches the shelf
+shelf-reached : (s : KnownShelf) (told : Option (List ℕ)) (n : ℕ) (name text : List ℕ) → IfSome told (λ bytes. StopsAtLoad s bytes n name text) → IfSome told (λ bytes. ReachesShelf s bytes)
+shelf-reached s None n name text h = tt
+shelf-reached s (Some bytes) n name text h = record { count = n; name = name; text = text; stops = h }
+
+pub stops-reach : (s : KnownShelf) (told left : Option (List ℕ)) (took0 took : Option (List ℕ)) (g0 g : ℕ) (name : List ℕ) → StopsAtName s told left took0 took g0 g name → IfSome told (λ bytes. ReachesShelf s bytes)
+stops-reach s told left took0 took g0 g name h = shelf-reached s told h.count name h.text h.stops
+
+-- the shelf is as it was, or the `load` of some line reached it
+abbrev pub Untouched : {H : Type 0} → KnownShelf → Option (List ℕ) → H → H → Type 0
+Untouched s told before now = IfSome told (λ bytes. (now ≡ before) ⊎ ReachesShelf s bytes)
+
+pub untouched-yet : {H : Type 0} (s : KnownShelf) (told : Option (List ℕ)) (shelf : H) → Untouched s told shelf shelf
+untouched-yet s None shelf = tt
+untouched-yet s (Some bytes) shelf = inl refl
+
+pub untouched-then : {H : Type 0} (s : KnownShelf) (told : Option (List ℕ)) (before now after : H) → Untouched s told before now → (after ≡ now) ⊎ IfSome told (λ bytes. ReachesShelf s bytes) → Untouched s told before after
+untouched-then s None before now after h then = tt
+untouched-then s (Some bytes) before now after (inr reached) then = inr reached
+untouched-then s (Some bytes) before now after (inl same) (inl also) = inl (also ∙ same)
+untouched-then s (Some bytes) before now after (inl same) (inr reached) = inr reached
+
+pub untouched-after : {H : Type 0} (s : KnownShelf) (told left left' : Option (List ℕ)) (last : ℕ) (took0 took : Option (List ℕ)) (g0 g g' : ℕ) (r r' : Reader) (bad : Bool) (next : Next) (IsNow : State → Type 0) (before now after : H)
+    → (h : Running s told left last took0 took g0 g r bad IsNow)
+    → (Fits r left last → GivesLines r'.ended (to_come r left) (to_come r' left') (says next r'.line))
+    → (next ≡ End → ⊥)
+    → r'.number ≡ r.number + length (says next r'.line)
+    → r'.fault ≡ None → SaysTooMuch r'.limit r'.taken r'.fault → r'.limit ≡ r.limit → r.taken ≤ r'.taken
+    → Loses left left' (r'.taken - r.taken) → RisesBy g g' (r'.taken - r.taken)
+    → Untouched s told before now → (after ≡ now) ⊎ ((name : List ℕ) × Reaches h.state (line_text next r'.line) name)
+    → Untouched s told before after
+untouched-after s told left left' last took0 took g0 g g' r r' bad next IsNow before now after h lines more number fault says_fault same_limit later loses given u (inl same) = untouched-then s told before now after u (inl same)
+untouched-after s told left left' last took0 took g0 g g' r r' bad next IsNow before now after h lines more number fault says_fault same_limit later loses given u (inr w) =
+    untouched-then s told before now after u
+    (inr (stops-reach s told left' took0 took g0 g' w.0
+    (stops-at_name s told left left' last took0 took g0 g g' r r' bad next w.0 IsNow h lines more number fault says_fault same_limit later loses given w.1)))

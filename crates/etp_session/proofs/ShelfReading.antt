@@ -24,7 +24,7 @@ use Rattle.etp_session.specs.Loads.{with_lines, LoadedLines}
 use Rattle.etp_reply.specs.declared.desk.Opened.{Opened}
 use Rattle.etp_reply.specs.declared.desk.Filing.{Filing}
 use Rattle.etp_session.proofs.Parts.{to_last_newline-both}
-use Rattle.etp_session.proofs.Running.{takes-more, no_part, at-end, says-line}
+use Rattle.etp_session.proofs.Running.{takes-more, rises-by_none, no_part, at-end, says-line}
 
 -- a part of the bytes has these body lines, and others are to come
 pub record PartLines (ended : Bool) (bytes coming : List ℕ) (lines : List LineText) : Type 0 where
@@ -63,7 +63,7 @@ starts-loading limit keeps name f given reader e = rw e (record {
   limited = refl;
   counted = omega arith;
   within = omega arith;
-  takes = record { loses = Loses-none (left_at keeps name 0); risen = omega arith };
+  takes = record { loses = Loses-none (left_at keeps name 0); counted = rises-by_none given };
 })
   where
     false_is_true : false ≡ true → ⊥
@@ -207,5 +207,5 @@ pub loading-long : (s : KnownShelf) (name : List ℕ) (first now : Filing) (g0 g
 loading-long s name first now g0 g g' r r' h amount same_limit later loses given there =
     let count : r'.taken ≡ s.limit + 1 = omega (arith, amount, same_limit, h.limited) in
     let takes : Takes (left_at s.keeps name 0) (left_at s.keeps name r'.taken) g0 g' r'.taken = takes-more (left_at s.keeps name 0) (left_at s.keeps name r.taken) (left_at s.keeps name r'.taken) g0 g g' r.taken r'.taken h.takes loses given later in
-    let all : Takes (left_at s.keeps name 0) (left_at s.keeps name r'.taken) g0 g' (s.limit + 1) = record { loses = subst (λ n. Loses (left_at s.keeps name 0) (left_at s.keeps name r'.taken) n) count takes.loses; risen = omega (arith, takes.risen, count) } in
+    let all : Takes (left_at s.keeps name 0) (left_at s.keeps name r'.taken) g0 g' (s.limit + 1) = record { loses = subst (λ n. Loses (left_at s.keeps name 0) (left_at s.keeps name r'.taken) n) count takes.loses; counted = subst (λ n. RisesBy g0 g' n) count takes.counted } in
     (there-long s.limit s.keeps name (there h.fits) (many-bytes s.limit (left_at s.keeps name 0) (left_at s.keeps name r'.taken) all.loses), all)

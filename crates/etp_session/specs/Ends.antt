@@ -2,6 +2,7 @@
 use Rattle.std.specs.Prelude.{◌≡◌, ℕ, ◌+◌, ◌-◌, ◌^◌, ◌≤◌, min, List, take, Bool, IfSome}
 use Rattle.std.specs.declared.option.Option.{Option}
 use Rattle.std.specs.Io.KnownBytes.{Appends, IsAtEnd}
+use Rattle.etp_io.specs.Counts.{RisesBy}
 use Rattle.etp_io.specs.Stream.{Loses}
 use Rattle.etp_io.specs.Texts.{to_last_newline}
 use Rattle.etp_reply.specs.Shelves.{KnownShelf, IsTooLong}
@@ -32,10 +33,10 @@ pub record WritesWholeLines (s : KnownShelf) (left took_before took_after : Opti
   pub written : Appends took_before took_after text
   pub session : IfSome left (λ bytes. AnswersLines s (to_last_newline (take n bytes)) text refused)
 
--- so many bytes were taken from the source
+-- exactly so many bytes were taken from the source
 pub record Takes (left left_after : Option (List ℕ)) (given given_after n : ℕ) : Type 0 where
   pub loses : Loses left left_after n
-  pub risen : min (given + n) (2 ^ 64 - 1) ≤ given_after
+  pub counted : RisesBy given given_after n
 
 -- so many at most
 pub record TakesWithin (left left_after : Option (List ℕ)) (given given_after limit : ℕ) : Type 0 where

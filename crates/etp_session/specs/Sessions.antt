@@ -67,6 +67,13 @@ pub record StopsAtLoad (s : KnownShelf) (bytes : List ℕ) (n : ℕ) (name text 
   pub session : Session s unopened done text refused last
   pub reaches : Reaches last item.line name
 
+-- the `load` of some line reaches the shelf
+pub record ReachesShelf (s : KnownShelf) (bytes : List ℕ) : Type 0 where
+  pub count : ℕ
+  pub name : List ℕ
+  pub text : List ℕ
+  pub stops : StopsAtLoad s bytes count name text
+
 -- a prefix of the text of the first lines
 pub record BeginsInLines (s : KnownShelf) (bytes written : List ℕ) : Type 0 where
   pub done : List Item

@@ -1,5 +1,5 @@
 // Files whose bodies are read from the shelf.
-ghost use Rattle.std.specs.Prelude.{◌≡◌, ◌↔◌, ◌+◌, ◌-◌, ◌^◌, ◌≤◌, ◌<◌, ◌⊎◌, min, ℕ, [], length, IfOk, IfErr, IfSome, OnOk, IsErrOf, Some, None};
+ghost use Rattle.std.specs.Prelude.{◌≡◌, ◌↔◌, ◌+◌, ◌-◌, ◌^◌, ◌≤◌, ◌<◌, ◌⊎◌, min, ℕ, List, [], length, IfOk, IfErr, IfSome, OnOk, IsErrOf, Some, None};
 ghost use Rattle.etp_io.specs.Causes.{Rose};
 ghost use Rattle.etp_items.specs.Reading.{given_text};
 ghost use Rattle.etp_reply.specs.States.{State};
@@ -126,6 +126,8 @@ pub(crate) fn answer_line<H: Shelf>(
         → LoadsLong (known limit (H.keeps shelf.old)) state (given_text line.entry) (H.given shelf.old) (H.given shelf.new) }
     ensures errors { IfErr result (λ e. (e ≡ Ending.NoMemory) ⊎ ((e ≡ Ending.ReadFault) ⊎ (e ≡ Ending.TooMuch))) }
     ensures keeps { H.keeps shelf.new ≡ H.keeps shelf.old }
+    ensures untouched { (state : State) → IsDesk desk.old state
+        → (shelf.new ≡ shelf.old) ⊎ ((name : List ℕ) × Reaches state (given_text line.entry) name) }
     ensures later { (H.faults shelf.old ≤ H.faults shelf.new) × (H.given shelf.old ≤ H.given shelf.new) }
 {
     match respond(alloc, text, desk, line, number) {

@@ -4,6 +4,7 @@ ghost use Rattle.etp_items.specs.Reading.{given_text};
 ghost use Rattle.etp_reply.specs.States.{State};
 ghost use Rattle.etp_reply.specs.Desks.{IsDesk, IsSound};
 ghost use Rattle.etp_session.specs.Endings.{line_text, WritesNothing, WritesClose, WritesSomeOfClose, IsDone, IsCut, IsEnd, status_of};
+ghost use Rattle.etp_session.specs.Sessions.{ReachesShelf};
 ghost use Rattle.etp_session.specs.Ends.{EndsWell, WritesPrefix, WritesWholeLines, Takes, TakesWithin, StopsAtFault, StopsAtName, StopsAtLong};
 ghost use Rattle.etp_reply.specs.Shelves.{known};
 
@@ -117,6 +118,7 @@ fn serve<S: Source, K: Sink, H: Shelf>(
         ⊎ StopsAtLong (known limit (H.keeps shelf.old)) (S.left source.old) (S.left source.new) (K.took sink.old) (K.took sink.new) (S.given source.old) (S.given source.new) (H.given shelf.old) (H.given shelf.new) }
     ensures within { (result ≡ Ending.TooMuch → ⊥) → TakesWithin (S.left source.old) (S.left source.new) (S.given source.old) (S.given source.new) limit }
     ensures keeps { H.keeps shelf.new ≡ H.keeps shelf.old }
+    ensures untouched { IfSome (S.left source.old) (λ bytes. (shelf.new ≡ shelf.old) ⊎ ReachesShelf (known limit (H.keeps shelf.old)) bytes) }
 {
     let Ok(mut lines) = Lines::start(alloc, limit) else {
         return Ending::NoMemory;
@@ -195,8 +197,11 @@ pub fn session<S: Source, K: Sink, H: Shelf>(
         ⊎ StopsAtLong (known limit (H.keeps shelf.old)) (S.left source.old) (S.left source.new) (K.took sink.old) (K.took sink.new) (S.given source.old) (S.given source.new) (H.given shelf.old) (H.given shelf.new) }
     ensures within { (result ≡ 6 → ⊥) → TakesWithin (S.left source.old) (S.left source.new) (S.given source.old) (S.given source.new) limit }
 
-    ensures statuses { (result ≤ 6) × (result ≡ 2 → ⊥) }
+    // The shelf keeps what it did, and is as it was where no `load` reaches it.
     ensures keeps { H.keeps shelf.new ≡ H.keeps shelf.old }
+    ensures untouched { IfSome (S.left source.old) (λ bytes. (shelf.new ≡ shelf.old) ⊎ ReachesShelf (known limit (H.keeps shelf.old)) bytes) }
+
+    ensures statuses { (result ≤ 6) × (result ≡ 2 → ⊥) }
 {
     status(serve(alloc, limit, source, sink, shelf))
 }

@@ -4,7 +4,7 @@ ghost use Rattle.etp_io.specs.Causes.{Rose};
 ghost use Rattle.etp_command.specs.Arguments.{task_of, IsTask};
 ghost use Rattle.etp_command.specs.Commands.{operations_of};
 ghost use Rattle.etp_session.specs.Listings.{ListsLaws};
-ghost use Rattle.etp_session.specs.Sessions.{IsSession, IsWholeSession};
+ghost use Rattle.etp_session.specs.Sessions.{IsSession, IsWholeSession, ReachesShelf};
 ghost use Rattle.etp_io.specs.Kept.{kept_or_empty};
 ghost use Rattle.std.specs.declared.option.Option.{Option};
 ghost use Rattle.etp_session.specs.Ends.{EndsWell, WritesPrefix, WritesWholeLines, Takes, TakesWithin, StopsAtFault, StopsAtName, StopsAtLong};
@@ -63,8 +63,12 @@ pub fn run<S: Source, K: Sink, H: Shelf>(
     ensures laws { (order : ListOrder) → IsTask (map string_bytes words.now) (Task.Laws order) → ListsLaws (operations_of order) (K.took sink.old) (K.took sink.new) result }
     ensures unread { (order : ListOrder) → IsTask (map string_bytes words.now) (Task.Laws order) → (source.new ≡ source.old) × (shelf.new ≡ shelf.old) }
 
-    ensures statuses { result ≤ 6 }
+    // The shelf keeps what it did, and is as it was where no `load` of a session reaches it.
     ensures keeps { H.keeps shelf.new ≡ H.keeps shelf.old }
+    ensures shelf_untouched { IsTask (map string_bytes words.now) Task.Session
+        → IfSome (S.left source.old) (λ bytes. (shelf.new ≡ shelf.old) ⊎ ReachesShelf (known 134217728 (H.keeps shelf.old)) bytes) }
+
+    ensures statuses { result ≤ 6 }
 {
     match task_of(words) {
         Task::Session => session(alloc, LIMIT, source, sink, shelf),

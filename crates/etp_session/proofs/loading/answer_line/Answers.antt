@@ -1,3 +1,4 @@
+use Rattle.std.proofs.Common.{inl, inr, refl}
 use Rattle.etp_reply.specs.Shelves.{known}
 use Rattle.etp_reply.proofs.FileAnswers.{IfOk-then}
 use Rattle.etp_session.proofs.LoadAnswers.{loads-ready, replies-loaded}
@@ -45,3 +46,14 @@ returns-in-Ok-Loads-clause-too_much g c long state at =
       long = said.0;
       risen = said.1;
     }
+
+pub returns-in-Ok-Loads-clause-untouched : goal.returns-in-Ok-Loads-clause-untouched
+returns-in-Ok-Loads-clause-untouched g c state at =
+    let s = known c.args.limit (g.H.Shelf.keeps c.args.shelf.now) in
+    inr (c.in-Ok-Loads.name.now, (loads-ready s _ _ _ _ _ _ _ (rw c.in-Ok-Loads.field-0-is at (c.in-Ok-Loads.ensures.gives s state at))).2)
+
+pub returns-in-Ok-Replied-clause-untouched : goal.returns-in-Ok-Replied-clause-untouched
+returns-in-Ok-Replied-clause-untouched g c state at = inl refl
+
+pub returns-in-Ok-Reads-clause-untouched : goal.returns-in-Ok-Reads-clause-untouched
+returns-in-Ok-Reads-clause-untouched g c state at = inl refl

@@ -2,7 +2,7 @@ use Rattle.std.proofs.Common.{arith, ◌≡◌, ◌+◌, ap, inl, inr, ◌∙◌
 use Rattle.etp_reply.proofs.FileAnswers.{untrue}
 use Rattle.std.specs.Prelude.{Err}
 use Rattle.etp_io.specs.declared.lines.Next.TheVariants.{End}
-use Rattle.etp_session.proofs.Running.{running-then, ends-well, ends-in_reply, ends-before_close, ends-between, ends-in_close, takes-within, takes-now, stops, stops-at_fault, stops-at_name, goes-on, done-close, cut-close, not_done, cut_before, no_write, no_read, no_limit}
+use Rattle.etp_session.proofs.Running.{running-then, ends-well, ends-in_reply, ends-before_close, ends-between, ends-in_close, takes-within, takes-now, stops, stops-at_fault, stops-at_name, goes-on, done-close, cut-close, not_done, cut_before, no_write, no_read, no_limit, untouched-yet, untouched-after}
 use Rattle.etp_session.proofs.serving.serve.Goals as goal
 
 pub returns-in-Err-ReadFault-clause-read : goal.returns-in-Err-ReadFault-clause-read
@@ -120,7 +120,8 @@ returns-in-Err-write_all-clause-within g c n =
 
 pub served-preserved : goal.served-preserved
 served-preserved g c =
-    let more : c.in-Ok-next.next ≡ End → ⊥ = untrue c.is_end.result _ c.is_end.ensures c.if-is_end.false in (
+    let more : c.in-Ok-next.next ≡ End → ⊥ = untrue c.is_end.result _ c.is_end.ensures c.if-is_end.false in
+    let running = c.served.invariant.0 in (
       rw c.either-refused.ensures
           (running-then _ _ _ _ _ _ _ _ _ _ _ _ _ c.next.new.self _ c.in-Ok-answer_line.also c.in-Ok-next.next c.answer_line.new.text _ _ c.served.invariant.0
           c.next.ensures.fits c.in-Ok-next.ensures.lines more c.in-Ok-next.ensures.number c.in-Ok-next.ensures.ok c.next.ensures.says c.next.ensures.limit
@@ -133,4 +134,26 @@ served-preserved g c =
       omega (arith, c.served.invariant.4, c.answer_line.ensures.later.0),
       omega (arith, c.served.invariant.5, c.answer_line.ensures.later.1),
       c.answer_line.ensures.keeps ∙ c.served.invariant.6,
+      untouched-after _ _ _ _ _ _ _ _ _ _ _ c.next.new.self _ c.in-Ok-next.next _ _ _ _ running
+          c.in-Ok-next.ensures.lines more c.in-Ok-next.ensures.number c.in-Ok-next.ensures.ok c.next.ensures.says c.next.ensures.limit
+          c.next.ensures.taken c.next.ensures.loses c.next.ensures.given c.served.invariant.7
+          (rw c.line_read-line.ensures.text at (c.answer_line.ensures.untouched running.state running.stands)),
     )
+
+pub returns-in-Err-clause-untouched : goal.returns-in-Err-clause-untouched
+returns-in-Err-clause-untouched g c =
+    let more : c.in-Ok-next.next ≡ End → ⊥ = untrue c.is_end.result _ c.is_end.ensures c.if-is_end.false in
+    let running = c.served.invariant.0 in
+    untouched-after _ _ _ _ _ _ _ _ _ _ _ c.next.new.self _ c.in-Ok-next.next _ _ _ _ running
+    c.in-Ok-next.ensures.lines more c.in-Ok-next.ensures.number c.in-Ok-next.ensures.ok c.next.ensures.says c.next.ensures.limit
+    c.next.ensures.taken c.next.ensures.loses c.next.ensures.given c.served.invariant.7
+    (rw c.line_read-line.ensures.text at (c.answer_line.ensures.untouched running.state running.stands))
+
+pub returns-in-Err-write_all-clause-untouched : goal.returns-in-Err-write_all-clause-untouched
+returns-in-Err-write_all-clause-untouched g c =
+    let more : c.in-Ok-next.next ≡ End → ⊥ = untrue c.is_end.result _ c.is_end.ensures c.if-is_end.false in
+    let running = c.served.invariant.0 in
+    untouched-after _ _ _ _ _ _ _ _ _ _ _ c.next.new.self _ c.in-Ok-next.next _ _ _ _ running
+    c.in-Ok-next.ensures.lines more c.in-Ok-next.ensures.number c.in-Ok-next.ensures.ok c.next.ensures.says c.next.ensures.limit
+    c.next.ensures.taken c.next.ensures.loses c.next.ensures.given c.served.invariant.7
+    (rw c.line_read-line.ensures.text at (c.answer_line.ensures.untouched running.state running.stands))

@@ -1,7 +1,7 @@
 use Rattle.std.proofs.Common.{◌≡◌, ◌+◌, ◌-◌, ◌≤◌}
 use Rattle.std.specs.Option.{IfSome}
 use Rattle.etp_reply.specs.Desks.{Agrees, IsDesk}
-use Rattle.etp_session.proofs.Running.{Running}
+use Rattle.etp_session.proofs.Running.{Running, Untouched}
 use Rattle.etp_session.proofs.serving.serve.Given as goal
 
 abbrev pub invariant-served : goal.invariant-served
@@ -9,6 +9,7 @@ invariant-served g l = Running (record { limit = l.limit; keeps = g.H.Shelf.keep
     (g.S.Source.given l.fn.source) (g.S.Source.given l.source) l.lines l.refused (IsDesk l.desk)
     × IfSome l.desk.opened Agrees × (g.S.Source.faults l.fn.source ≤ g.S.Source.faults l.source) × (g.K.Sink.faults l.fn.sink ≤ g.K.Sink.faults l.sink)
     × (g.H.Shelf.faults l.fn.shelf ≤ g.H.Shelf.faults l.shelf) × (g.H.Shelf.given l.fn.shelf ≤ g.H.Shelf.given l.shelf) × (g.H.Shelf.keeps l.shelf ≡ g.H.Shelf.keeps l.fn.shelf)
+    × Untouched (record { limit = l.limit; keeps = g.H.Shelf.keeps l.fn.shelf }) (g.S.Source.left l.fn.source) l.fn.shelf l.shelf
 
 abbrev pub decreases-served : goal.decreases-served
 decreases-served g l = l.limit + 1 - l.lines.number
