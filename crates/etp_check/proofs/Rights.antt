@@ -1,5 +1,5 @@
 -- What a valid body says is right where what it cites is.
-use Rattle.std.proofs.Common.{◌≡◌, ℕ, zero, suc, List, Contains, Option, Some, None, IsSome, is_some, unwrap_or, true≢false, refl, All, length, map, slice_get, sym, ap, subst, ◌∙◌, arith}
+use Rattle.std.proofs.Common.{◌≡◌, ℕ, zero, suc, List, Contains, Option, Some, None, IsSome, is_some, unwrap_or, true≢false, refl, length, map, slice_get, sym, ap, subst, ◌∙◌, arith}
 use Rattle.std.specs.Option.{option_map}
 use Rattle.std.proofs.lemmas.List.Elements.{All-contains}
 use Rattle.std.proofs.lemmas.Option.{slice_get-map, slice_get_within, get_or_from_slice_get}

@@ -1,5 +1,5 @@
 -- The body of a file that stands is valid over all files that stand.
-use Rattle.std.proofs.Common.{◌≡◌, ℕ, zero, suc, List, [], ◌∷◌, ◌++◌, true, false, cond, All, Option, Some, None, slice_get, refl, sym, ap, subst, ◌∙◌, append_assoc}
+use Rattle.std.proofs.Common.{◌≡◌, ℕ, zero, suc, List, [], ◌∷◌, ◌++◌, true, false, cond, Option, Some, None, slice_get, refl, sym, ap, subst, ◌∙◌, append_assoc}
 use Rattle.etp_theory.specs.Trees.{Equation}
 use Rattle.etp_items.specs.Bodies.{FileBody}
 use Rattle.etp_check.specs.Checks.{hypothesis_of, cites_of, IsValidBody}
