@@ -1,0 +1,6 @@
+pub mod Lists
+pub mod Compiling
+pub mod Running
+pub mod Places
+pub mod Meanings
+pub mod Walking

@@ -1,0 +1,9 @@
+pub mod Tables
+pub mod Points
+pub mod Entries
+pub mod Verdicts
+pub mod Judgements
+pub mod Programs
+pub mod Digits
+pub mod Compiled
+pub mod Coding
