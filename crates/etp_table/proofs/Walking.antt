@@ -1,5 +1,5 @@
 -- The walk over all assignments, row by row.
-use Rattle.std.proofs.Common.{◌≡◌, ◌≢◌, ◌+◌, ◌-◌, ◌*◌, ◌^◌, ◌<◌, ◌≤◌, ◌⊎◌, inl, inr, ℕ, zero, suc, Bool, true, false, List, [], ◌∷◌, ◌++◌, length, get_or, take, drop, refl, sym, ap, ap₂, ◌∙◌, subst, arith, min, length-append}
+use Rattle.std.proofs.Common.{◌≡◌, ◌≢◌, ◌+◌, ◌-◌, ◌*◌, ◌^◌, ◌<◌, ◌≤◌, ◌⊎◌, inl, inr, ℕ, zero, suc, Bool, true, false, List, [], ◌∷◌, ◌++◌, length, get_or, take, drop, refl, sym, ap, ap₂, ◌∙◌, subst, arith, min, length-append, length-drop}
 use Rattle.std.proofs.Math.Seq.{get_or-append_seam, take-append_seam}
 use Rattle.std.proofs.Math.Nat.{pow-suc, lt_of_mul-lt-mul_right, zero-mul}
 use Rattle.std.proofs.lemmas.Bool.{cases_lt, cases_eq}
@@ -21,6 +21,7 @@ use Rattle.etp_table.proofs.Places.{place_of-snoc, one_assignment, place_of-zero
 -- the assignments before `passed` agree, and the registers have the earlier variables of the next one,
 -- of which the last is 0
 pub record Walked (t : Table) (e : Equation) (last : ℕ) (registers : List ℕ) (passed all : ℕ) : Type 0 where
+  pub long : length registers ≡ 18
   pub values : AreValues t registers
   pub agree : AgreesBefore t e passed
   pub within : passed ≤ all
@@ -72,8 +73,9 @@ zero_at (zero ∷ xs) h zero = refl
 zero_at (zero ∷ xs) h (suc i) = zero_at xs h i
 zero_at (suc x ∷ xs) h i = absurd (cc)
 
-walked_none : (t : Table) (e : Equation) (last all : ℕ) (registers : List ℕ) → 1 ≤ t.size → ((i : ℕ) → get_or registers i 0 ≡ 0) → Walked t e last registers 0 all
-walked_none t e last all registers some h = record {
+walked_none : (t : Table) (e : Equation) (last all : ℕ) (registers : List ℕ) → length registers ≡ 18 → 1 ≤ t.size → ((i : ℕ) → get_or registers i 0 ≡ 0) → Walked t e last registers 0 all
+walked_none t e last all registers long some h = record {
+  long = long;
   values = λ r k. subst (λ z. z < t.size) (sym (h r)) some;
   agree = λ xs a k. absurd (omega arith);
   within = omega arith;
@@ -85,9 +87,9 @@ no_values = 0 ∷ 0 ∷ 0 ∷ 0 ∷ 0 ∷ 0 ∷ 0 ∷ 0 ∷ 0 ∷ 0 ∷ 0 ∷ 0 
 
 pub walked_at_first : (t : Table) (e : Equation) (last all : ℕ) → 1 ≤ t.size → Walked t e last (0 ∷ 0 ∷ 0 ∷ 0 ∷ 0 ∷ 0 ∷ 0 ∷ 0 ∷ 0 ∷ 0 ∷ 0 ∷ 0 ∷ 0 ∷ 0 ∷ 0 ∷ 0 ∷ 0 ∷ 0 ∷ []) 0 all
 unfolding zeros no_values
-walked_at_first t e last all some = walked_none t e last all no_values some (zero_at no_values refl)
+walked_at_first t e last all some = walked_none t e last all no_values refl some (zero_at no_values refl)
 
-module _ (t : Table) (c : CompiledLaw) (zeroth first second : List ℕ) (passed all count : ℕ) (compiled : IsCompiled c) (walked : Walked t (law_of c) c.program.last zeroth passed all) (more : passed < all) (long : 18 ≤ length zeroth) (long_first : 18 ≤ length first) (long_second : 18 ≤ length second) (kept_run : SameBelow 7 zeroth first) (values : AreValues t first) (row_run : SameBelow 12 first second) (small : count ≤ t.size) (in_all : count ≤ all - passed) where
+module _ (t : Table) (c : CompiledLaw) (zeroth first second : List ℕ) (passed all count : ℕ) (compiled : IsCompiled c) (walked : Walked t (law_of c) c.program.last zeroth passed all) (more : passed < all) (long_first : length first ≡ 18) (long_second : length second ≡ 18) (kept_run : SameBelow 7 zeroth first) (values : AreValues t first) (row_run : SameBelow 12 first second) (small : count ≤ t.size) (in_all : count ≤ all - passed) where
   last : ℕ
   last = c.program.last
 
@@ -97,7 +99,7 @@ module _ (t : Table) (c : CompiledLaw) (zeroth first second : List ℕ) (passed 
 
   fronts : take last first ≡ take last zeroth
   unfolding last
-  fronts = let f = compiled.few in take_same last zeroth first (omega arith) (omega arith) (λ i h. kept_run i (omega arith))
+  fronts = let f = compiled.few in let long = walked.long in take_same last zeroth first (omega arith) (omega arith) (λ i h. kept_run i (omega arith))
 
   place : place_of t.size (take last first) * t.size ≡ passed
   unfolding last
@@ -113,10 +115,10 @@ module _ (t : Table) (c : CompiledLaw) (zeroth first second : List ℕ) (passed 
 
   pub row_agrees : ((j : ℕ) → j < count → AgreesAt t (law_of c) (assignment_at c.program.last first j)) → AgreesBefore t (law_of c) (passed + count)
   unfolding last
-  row_agrees = agree_more t (law_of c) last passed count first compiled.variables_are few long_first values small place walked.agree
+  row_agrees = agree_more t (law_of c) last passed count first compiled.variables_are few (omega arith) values small place walked.agree
 
   pub walked_last : AreValues t second → AgreesBefore t (law_of c) (passed + count) → all ≤ passed + count → Walked t (law_of c) c.program.last second (passed + count) all
-  walked_last below agree over = record { values = below; agree = agree; within = omega arith; place = λ h. absurd (omega arith) }
+  walked_last below agree over = record { long = long_second; values = below; agree = agree; within = omega arith; place = λ h. absurd (omega arith) }
 
   module _ (whole : count ≡ min (all - passed) t.size) (go_on : passed + count < all) where
     full : count ≡ t.size
@@ -147,8 +149,12 @@ module _ (t : Table) (c : CompiledLaw) (zeroth first second : List ℕ) (passed 
       front_is : take c.program.last (digits ++ drop c.program.last second) ≡ digits
       front_is = ap (λ k. take k (digits ++ drop c.program.last second)) (sym as_many) ∙ take-append_seam digits (drop c.program.last second)
 
+      joined_long : length (digits ++ drop c.program.last second) ≡ 18
+      joined_long = let f = compiled.few in omega (arith, as_many, length-append digits (drop c.program.last second), length-drop c.program.last second)
+
       pub walked_next : AgreesBefore t (law_of c) (passed + count) → Walked t (law_of c) c.program.last (digits ++ drop c.program.last second) (passed + count) all
       walked_next agree = record {
+        long = joined_long;
         values = joined_below;
         agree = agree;
         within = omega arith;
@@ -165,15 +171,15 @@ module _ (t : Table) (c : CompiledLaw) (zeroth first second : List ℕ) (passed 
 
     at : place_of t.size (values_of point) ≡ passed + value
     unfolding last
-    at = ap (place_of t.size) are ∙ placed t (law_of c) last passed count first compiled.variables_are few long_first values small place walked.agree value
+    at = ap (place_of t.size) are ∙ placed t (law_of c) last passed count first compiled.variables_are few (omega arith) values small place walked.agree value
 
     pub failure_is_first : IsFirstFailure t (law_of c) point (get_or second c.left 0) (get_or second c.right 0)
     unfolding last
     failure_is_first = record {
       variables_are = variables_at ∙ sym compiled.variables_are;
-      assignment = subst (λ xs. IsAssignment (variables (law_of c)) t.size xs) (sym are) (subst (λ k. IsAssignment k t.size (assignment_at last first value)) (sym compiled.variables_are) (assignment_of t last value first few long_first values value_small));
+      assignment = subst (λ xs. IsAssignment (variables (law_of c)) t.size xs) (sym are) (subst (λ k. IsAssignment k t.size (assignment_at last first value)) (sym compiled.variables_are) (assignment_of t last value first few (omega arith) values value_small));
       among = let w = found.within in omega (arith, at, w);
-      before = subst (AgreesBefore t (law_of c)) (sym at) (agree_more t (law_of c) last passed value first compiled.variables_are few long_first values (let s = value_small in omega arith) place walked.agree found.before);
+      before = subst (AgreesBefore t (law_of c)) (sym at) (agree_more t (law_of c) last passed value first compiled.variables_are few (omega arith) values (let s = value_small in omega arith) place walked.agree found.before);
       left_is = found.left_is ∙ ap (λ xs. meaning (times t) (assigned xs) (law_of c).left) (sym are);
       right_is = found.right_is ∙ ap (λ xs. meaning (times t) (assigned xs) (law_of c).right) (sym are);
       differ = found.differ;
