@@ -4,3 +4,4 @@ pub mod Running
 pub mod Places
 pub mod Meanings
 pub mod Walking
+pub mod Tables

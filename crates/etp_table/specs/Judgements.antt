@@ -1,5 +1,5 @@
 -- Laws that are to hold in a table and laws that are to fail there, by their numbers.
-use Rattle.std.specs.Prelude.{◌≡◌, ℕ, ◌<◌, ◌≤◌, List, All, Some, slice_get, take, min}
+use Rattle.std.specs.Prelude.{◌≡◌, ◌⊎◌, ℕ, ◌<◌, ◌≤◌, List, All, Some, slice_get, take, min}
 use Rattle.etp_theory.specs.Trees.{Equation}
 use Rattle.etp_theory.specs.Numbered.{law_numbered}
 use Rattle.etp_theory.specs.Tables.{HoldsInLists}
@@ -44,11 +44,19 @@ IsFailsRefused t n e (FailsHolds law looked_at) =
     (law ≡ n) × (looked_at ≡ min limit (assignments t e)) × AgreesBefore t e limit
 IsFailsRefused t n e _ = ⊥
 
+-- the first of the numbers whose law isn't as it is to be; `Refused` is said of its number and law
+pub record IsFirstRefused (laws : List Equation) (IsRight : ℕ → Type 0) (Refused : ℕ → Equation → Type 0) (numbers : List ℕ) : Type 0 where
+  pub place : ℕ
+  pub number : ℕ
+  pub law : Equation
+  pub stands : slice_get numbers place ≡ Some number
+  pub listed : law_numbered laws number ≡ Some law
+  pub before : All IsRight (take place numbers)
+  pub refused : Refused number law
+
 -- the first offence: of a law of `holds`, else of a law of `fails`
-pub data IsFirstOffence (laws : List Equation) (t : Table) (holds fails : List ℕ) (r : TableRefusal) : Type 0 where
-  in_holds : (place n : ℕ) (e : Equation) → slice_get holds place ≡ Some n → law_numbered laws n ≡ Some e
-      → All (LawHolds laws t) (take place holds) → IsHoldsRefused t n e r
-      → IsFirstOffence laws t holds fails r
-  in_fails : (place n : ℕ) (e : Equation) → slice_get fails place ≡ Some n → law_numbered laws n ≡ Some e
-      → All (LawHolds laws t) holds → All (LawFails laws t) (take place fails) → IsFailsRefused t n e r
-      → IsFirstOffence laws t holds fails r
+abbrev pub IsFirstOffence : List Equation → Table → List ℕ → List ℕ → TableRefusal → Type 0
+IsFirstOffence laws t holds fails r =
+    IsFirstRefused laws (LawHolds laws t) (λ n e. IsHoldsRefused t n e r) holds
+    ⊎ (All (LawHolds laws t) holds
+    × IsFirstRefused laws (LawFails laws t) (λ n e. IsFailsRefused t n e r) fails)

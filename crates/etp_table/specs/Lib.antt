@@ -6,4 +6,5 @@ pub mod Judgements
 pub mod Programs
 pub mod Digits
 pub mod Compiled
+pub mod Closed
 pub mod Coding

@@ -1,8 +1,9 @@
 -- The first failing assignment of a law in a table.
-use Rattle.std.specs.Prelude.{◌≡◌, ◌≢◌, ℕ, ◌<◌, ◌^◌, List, min, max}
+use Rattle.std.specs.Prelude.{◌≡◌, ◌≢◌, ℕ, ◌<◌, ◌≤◌, ◌^◌, List, min, max}
 use Rattle.etp_theory.specs.Trees.{Equation, bound}
 use Rattle.etp_theory.specs.Magmas.{meaning}
-use Rattle.etp_theory.specs.Tables.{IsAssignment, assigned, place_of}
+use Rattle.etp_theory.specs.Magmas as Magmas
+use Rattle.etp_theory.specs.Tables.{IsAssignment, assigned, place_of, below}
 use Rattle.etp_table.specs.Tables.{Table, times}
 use Rattle.etp_table.specs.Points.{values_of}
 use Rattle.etp_table.specs.declared.point.Point.{Point}
@@ -43,3 +44,12 @@ pub record IsFirstFailure (t : Table) (e : Equation) (point : Point) (left right
 abbrev pub IsVerdict : Table → Equation → Verdict → Type 0
 IsVerdict t e (Holds looked_at) = (looked_at ≡ min limit (assignments t e)) × AgreesBefore t e limit
 IsVerdict t e (Fails point left right) = IsFirstFailure t e point left right
+
+-- both sides have equal values under every assignment of values of the table
+abbrev pub HoldsIn : Table → Equation → Type 0
+HoldsIn t e = Magmas.Holds (below t.size) (times t) e.left e.right
+
+-- a law of which all assignments were looked at holds in the table, one that fails at one doesn't
+abbrev pub Tells : Table → Equation → Verdict → Type 0
+Tells t e (Holds looked_at) = assignments t e ≤ limit → HoldsIn t e
+Tells t e (Fails point left right) = HoldsIn t e → ⊥

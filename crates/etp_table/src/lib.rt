@@ -4,6 +4,8 @@
 
 mod compiled;
 mod instructions;
+mod judging;
+mod magma;
 mod point;
 mod program;
 mod refusal;

@@ -1,17 +1,25 @@
-ghost use Rattle.std.specs.Prelude.{◌≡◌, ◌⊎◌, ◌≤◌, ◌<◌, ◌*◌, ℕ, IfOk, IfErr, length, slice_index};
-ghost use Rattle.etp_theory.specs.Trees.{bound};
+ghost use Rattle.std.specs.Prelude.{◌≡◌, ◌⊎◌, ◌≤◌, ◌<◌, ◌*◌, ◌^◌, ℕ, IfOk, IfErr, length, slice_index};
+ghost use Rattle.etp_theory.specs.Trees.{bound, law_ops};
 ghost use Rattle.etp_theory.specs.Magmas.{meaning};
 ghost use Rattle.etp_theory.specs.Tables.{assigned};
 ghost use Rattle.etp_term.specs.Terms.{tree_of};
 ghost use Rattle.etp_table.specs.Tables.{times, IsTable};
 ghost use Rattle.etp_table.specs.Points.{values_of};
+ghost use Rattle.etp_term.specs.Laws.{equation_of};
+ghost use Rattle.etp_laws.specs.Listing.{Listed};
+ghost use Rattle.etp_laws.specs.LawLists.{HasVariables};
+ghost use Rattle.etp_table.specs.Verdicts.{variables, IsVerdict, Tells};
 ghost use Rattle.etp_table.specs.Entries.{IsFirstWrong};
 
-use crate::point::Point;
+use crate::compiled::{CompiledLaw, variables_of};
+use crate::point::{Point, Verdict};
 use crate::refusal::TableRefusal;
-use etp_term::Term;
+use etp_term::{Law, Term};
 use std::alloc::Global;
 use std::marker::Model;
+
+/// How many assignments of a law are looked at.
+pub(crate) const LOOKED_AT: u64 = 16777216;
 
 /// A finite magma on 0 to its size less one, by the table of its operation.
 #[derive(Drop)]
@@ -92,5 +100,27 @@ impl OpTable {
             Term::Var(v) => point.values[*v as usize],
             Term::Op(l, r) => self.value(self.eval(l.get(), point), self.eval(r.get(), point)),
         }
+    }
+
+    /// The first failing assignment of a listed law, in lexicographic order with variable 0 first,
+    /// among the first 16777216.
+    pub fn first_failure(&self, law: &Law) -> Verdict
+        requires listed { Listed (equation_of law.now) }
+        requires small { law_ops (equation_of law.now) ≤ 5 }
+        ensures verdict { IsVerdict self.now (equation_of law.now) result }
+        ensures tells { Tells self.now (equation_of law.now) result }
+        ensures variables { HasVariables (equation_of law.now) (variables (equation_of law.now)) }
+    {
+        let count = variables_of(law);
+        let looked_at = self.assignments(count).min(LOOKED_AT);
+        CompiledLaw::of(law, count).walk(self, looked_at)
+    }
+
+    /// How many assignments so many variables have.
+    pub(crate) fn assignments(&self, count: u8) -> u64
+        requires { count ≤ 7 }
+        ensures { result ≡ self.now.size ^ count }
+    {
+        (self.size() as u64).pow(count as u32)
     }
 }
