@@ -5,3 +5,4 @@ pub mod Places
 pub mod Meanings
 pub mod Walking
 pub mod Tables
+pub mod Offences

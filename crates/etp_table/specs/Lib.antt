@@ -8,3 +8,4 @@ pub mod Digits
 pub mod Compiled
 pub mod Closed
 pub mod Coding
+pub mod Theorems

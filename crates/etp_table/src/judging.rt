@@ -102,7 +102,7 @@ impl OpTable {
 }
 
 // The law of a listed number.
-fn listed(laws: &Laws, number: u32) -> &Law
+pub(crate) fn listed(laws: &Laws, number: u32) -> &Law
     requires { IsSome (law_numbered laws.now.equations number) }
     ensures law { law_numbered laws.now.equations number ≡ Some (equation_of result.now) }
     ensures listed { Listed (equation_of result.now) }

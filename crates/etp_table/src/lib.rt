@@ -2,6 +2,8 @@
 //! hold and fail in a table.
 #![tactic(auto)]
 
+ghost use Rattle.etp_table.specs.Theorems.{VerdictLaws, TableExamples};
+
 mod compiled;
 mod instructions;
 mod judging;
@@ -14,3 +16,17 @@ mod table;
 pub use point::{Point, Verdict};
 pub use refusal::TableRefusal;
 pub use table::OpTable;
+
+/// A law has one first failing assignment at most, and laws are as they are to be or there is a first
+/// offence, never both.
+pub fn verdict_laws()
+    ensures { VerdictLaws }
+{}
+
+/// A small table at which the definitions are computed.
+pub fn table_examples()
+    ensures { TableExamples }
+{}
+
+#[cfg(test)]
+mod tests;
