@@ -1,5 +1,5 @@
 -- The register of an operation has its value.
-use Rattle.std.proofs.Common.{◌≡◌, ◌+◌, ◌<◌, ◌≤◌, ◌⊎◌, inl, inr, ℕ, List, [], ◌∷◌, ◌++◌, length, slice_get, Some, refl, sym, ap, ap₂, ◌∙◌, subst, arith, length-append}
+use Rattle.std.proofs.Common.{◌≡◌, ◌+◌, inl, inr, ℕ, List, [], ◌∷◌, ◌++◌, length, slice_get, Some, sym, ap, ap₂, ◌∙◌, subst, arith, length-append}
 use Rattle.etp_theory.specs.Trees.{Tree, op}
 use Rattle.etp_table.specs.Programs.{Solves, HasValue, Extends, IsLast, in_kept, in_looped}
 use Rattle.etp_table.specs.declared.instructions.Instruction.{Instruction}

@@ -1,14 +1,14 @@
 -- The values in the registers of a law's sides.
-use Rattle.std.proofs.Common.{◌≡◌, ◌≢◌, ◌+◌, ◌<◌, ◌≤◌, ◌⊎◌, inl, inr, ℕ, Bool, true, false, cond, ltb, List, [], ◌∷◌, ◌++◌, length, get_or, take, slice_get, Some, None, refl, sym, ap, ap₂, ◌∙◌, subst, arith, max}
+use Rattle.std.proofs.Common.{◌≡◌, ◌+◌, ◌<◌, ◌≤◌, inl, inr, ℕ, cond, List, [], ◌∷◌, ◌++◌, length, get_or, take, sym, ap, ap₂, ◌∙◌, arith, max}
 use Rattle.std.proofs.Math.Seq.{get_or-append_seam}
 use Rattle.std.proofs.lemmas.Bool.{cases_eq, eq-eqb, ne_eqb}
 use Rattle.std.proofs.lemmas.List.{length-take-le, get_or_append_left, get_or-take}
 use Rattle.std.proofs.lemmas.Option.{slice_get_within}
-use Rattle.etp_theory.specs.Trees.{Tree, var, op, bound, Equation}
+use Rattle.etp_theory.specs.Trees.{Tree, var, op, bound}
 use Rattle.etp_theory.specs.Magmas.{meaning}
 use Rattle.etp_theory.specs.Tables.{assigned}
 use Rattle.etp_table.specs.Tables.{Table, times}
-use Rattle.etp_table.specs.Programs.{InOrder, Solves, HasValue, IsInOrder, register_of}
+use Rattle.etp_table.specs.Programs.{InOrder, Solves, HasValue, register_of}
 use Rattle.etp_table.specs.Compiled.{law_of, IsCompiled, SameBelow, assignment_at}
 use Rattle.etp_table.specs.declared.instructions.Instruction.{Instruction}
 use Rattle.etp_table.specs.declared.compiled.CompiledLaw.{CompiledLaw}

@@ -1,5 +1,5 @@
 -- A law has one first failing assignment; laws are judged right or there is an offence.
-use Rattle.std.proofs.Common.{◌≡◌, ◌≢◌, ℕ, ◌<◌, ◌≤◌, ◌⊎◌, inl, inr, All, List, [], ◌∷◌, Contains, Some, length, slice_get, get_or, zero, suc, sym, ◌∙◌, ap, subst, arith, refl}
+use Rattle.std.proofs.Common.{◌≡◌, ℕ, ◌<◌, ◌≤◌, ◌⊎◌, inl, inr, All, List, [], ◌∷◌, Some, slice_get, get_or, zero, suc, sym, ◌∙◌, ap, subst, arith, refl}
 use Rattle.std.proofs.lemmas.Bool.{cases_order}
 use Rattle.std.proofs.lemmas.List.Elements.{All-get_or}
 use Rattle.std.proofs.lemmas.Option.{slice_get_within, get_or_from_slice_get}
@@ -10,7 +10,7 @@ use Rattle.etp_theory.specs.Tables.{IsAssignment, assigned, place_of}
 use Rattle.etp_table.specs.Tables.{Table, times}
 use Rattle.etp_table.specs.Points.{values_of}
 use Rattle.etp_table.specs.Verdicts.{variables, assignments, limit, AgreesAt, AgreesBefore, IsFirstFailure}
-use Rattle.etp_table.specs.Judgements.{LawHolds, LawFails, IsJudged, IsHoldsRefused, IsFailsRefused, IsFirstRefused, IsFirstOffence}
+use Rattle.etp_table.specs.Judgements.{LawHolds, LawFails, IsJudged, IsHoldsRefused, IsFailsRefused, IsFirstOffence}
 use Rattle.etp_table.specs.Theorems.{left_projection, commutativity, second_point}
 use Rattle.etp_table.specs.declared.point.Point.{Point}
 use Rattle.etp_table.specs.declared.refusal.TableRefusal.{TableRefusal}

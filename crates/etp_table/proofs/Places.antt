@@ -1,6 +1,6 @@
 -- Places of assignments in lexicographic order.
-use Rattle.std.proofs.Common.{◌≡◌, ◌≢◌, ◌+◌, ◌*◌, ◌^◌, ◌<◌, ◌≤◌, ◌⊎◌, inl, inr, ℕ, zero, suc, List, [], ◌∷◌, ◌++◌, length, get_or, refl, sym, ap, ap₂, ◌∙◌, subst, arith, set, length-append, length-set, mul-le-mul_right}
-use Rattle.std.proofs.Math.Nat.{pow-zero, pow-succ', pow-suc}
+use Rattle.std.proofs.Common.{◌≡◌, ◌+◌, ◌*◌, ◌^◌, ◌<◌, ◌≤◌, ◌⊎◌, inl, inr, ℕ, zero, suc, List, [], ◌∷◌, ◌++◌, length, get_or, refl, sym, ap, ap₂, ◌∙◌, subst, arith, set, length-append, length-set, mul-le-mul_right}
+use Rattle.std.proofs.Math.Nat.{pow-zero, pow-suc}
 use Rattle.std.proofs.lemmas.Bool.{cases_order}
 use Rattle.etp_theory.specs.Tables.{IsAssignment, place_of}
 use Rattle.etp_theory.proofs.Tables.{AllBelow, place_lt, all_below}

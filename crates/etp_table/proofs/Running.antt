@@ -1,8 +1,8 @@
 -- Registers after some instructions have run.
-use Rattle.std.proofs.Common.{◌≡◌, ◌≢◌, ◌+◌, ◌<◌, ◌≤◌, ◌⊎◌, inl, inr, ℕ, List, length, get_or, slice_get, Some, refl, sym, ap, ap₂, ◌∙◌, subst, arith, set, get_or-set_other, get_or-set_same, length-set, below_more}
-use Rattle.std.proofs.lemmas.Bool.{cases_lt, cases_eq}
+use Rattle.std.proofs.Common.{◌≡◌, ◌≢◌, ◌+◌, ◌<◌, inl, inr, ℕ, List, length, get_or, slice_get, Some, refl, sym, ap, ap₂, ◌∙◌, subst, arith, set, get_or-set_other, get_or-set_same, below_more}
+use Rattle.std.proofs.lemmas.Bool.{cases_eq}
 use Rattle.etp_table.specs.Tables.{Table, times}
-use Rattle.etp_table.specs.Programs.{InOrder, Solves}
+use Rattle.etp_table.specs.Programs.{InOrder}
 use Rattle.etp_table.specs.Compiled.{AreValues, SameBelow}
 use Rattle.etp_table.specs.declared.instructions.Instruction.{Instruction}
 

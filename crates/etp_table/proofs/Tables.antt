@@ -1,14 +1,12 @@
 -- What the first failing assignment says of a law in a table, and of laws that are derived.
-use Rattle.std.proofs.Common.{◌≡◌, ◌≢◌, ℕ, ◌+◌, ◌*◌, ◌^◌, ◌<◌, ◌≤◌, ◌⊎◌, inl, inr, Bool, true, IsTrue, All, List, Contains, Some, length, get_or, max, min, sym, ◌∙◌, ap, subst, arith, ltb-true, lt-ltb, mul-le-mul_right}
+use Rattle.std.proofs.Common.{ℕ, ◌+◌, ◌*◌, ◌<◌, ◌≤◌, List, get_or, sym, ◌∙◌, arith, ltb-true, lt-ltb, mul-le-mul_right}
 use Rattle.std.proofs.lemmas.List.Elements.{All-get_or, All-contains}
 use Rattle.etp_theory.specs.Trees.{Tree, var, op, bound, Equation, law_ops}
-use Rattle.etp_theory.specs.Magmas.{meaning, IsClosed}
+use Rattle.etp_theory.specs.Magmas.{IsClosed}
 use Rattle.etp_theory.specs.Sound.{sound}
-use Rattle.etp_theory.specs.Derivations.{Derives}
-use Rattle.etp_theory.specs.Numbered.{law_numbered}
 use Rattle.etp_theory.specs.Reach.{refutes}
-use Rattle.etp_theory.specs.RightFacts.{IsRightFact, Refutes}
-use Rattle.etp_theory.specs.Tables.{below, assigned, HoldsInLists}
+use Rattle.etp_theory.specs.RightFacts.{IsRightFact}
+use Rattle.etp_theory.specs.Tables.{below, HoldsInLists}
 use Rattle.etp_theory.proofs.Tables.{holds_of_lists, lists_of_holds, place_below}
 use Rattle.etp_laws.specs.Listing.{Listed}
 use Rattle.etp_laws.proofs.Variables.{bound-few}

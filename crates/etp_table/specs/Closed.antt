@@ -1,5 +1,5 @@
 -- A table's operation stays in its carrier.
-use Rattle.std.proofs.Common.{◌≡◌, ℕ, ◌+◌, ◌*◌, ◌<◌, ◌≤◌, ◌⊎◌, inl, inr, Bool, true, false, ◌&&◌, IsTrue, List, length, get_or, nat_eq, nat_lt, refl, sym, ◌∙◌, ap, ap₂, arith, mul-le-mul_right, ltb-true, lt-ltb}
+use Rattle.std.proofs.Common.{◌≡◌, ℕ, ◌+◌, ◌*◌, ◌<◌, ◌≤◌, inl, inr, Bool, true, false, ◌&&◌, List, length, get_or, nat_eq, nat_lt, refl, ap₂, arith, mul-le-mul_right, ltb-true, lt-ltb}
 use Rattle.std.specs.List.{list_all}
 use Rattle.std.proofs.lemmas.Bool.{eqb-true, cases_lt, le-ltb}
 use Rattle.std.proofs.lemmas.List.Folds.{list_all_at}

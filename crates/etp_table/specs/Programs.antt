@@ -1,7 +1,7 @@
 -- A law as two lists of instructions on registers. Of the law's variables the last one runs fastest;
 -- the first list has the operations on which it has no influence.
 use Rattle.std.specs.Prelude.{◌≡◌, ◌⊎◌, ℕ, ◌+◌, ◌<◌, ◌≤◌, ◌==◌, ◌++◌, Some, List, [], ◌∷◌, length, slice_get, cond}
-use Rattle.etp_theory.specs.Trees.{Tree, Equation}
+use Rattle.etp_theory.specs.Trees.{Tree}
 use Rattle.etp_theory.specs.Magmas.{meaning}
 use Rattle.etp_table.specs.declared.instructions.Instruction.{Instruction}
 

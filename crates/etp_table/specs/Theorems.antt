@@ -5,7 +5,7 @@ use Rattle.etp_theory.specs.Magmas.{meaning}
 use Rattle.etp_theory.specs.Tables.{assigned, place_of}
 use Rattle.etp_table.specs.Tables.{Table, times}
 use Rattle.etp_table.specs.Points.{values_of}
-use Rattle.etp_table.specs.Verdicts.{limit, AgreesBefore, IsFirstFailure, HoldsIn}
+use Rattle.etp_table.specs.Verdicts.{limit, AgreesBefore, IsFirstFailure}
 use Rattle.etp_table.specs.Judgements.{IsJudged, IsFirstOffence}
 use Rattle.etp_table.specs.declared.point.Point.{Point}
 use Rattle.etp_table.specs.declared.refusal.TableRefusal.{TableRefusal}

@@ -1,5 +1,4 @@
-use Rattle.std.proofs.Common.{◌≡◌, sym, subst, arith}
-use Rattle.etp_theory.specs.Trees.{bound}
+use Rattle.std.proofs.Common.{sym, subst, arith}
 use Rattle.etp_term.specs.Terms.{tree_of}
 use Rattle.etp_table.specs.Programs.{HasValue}
 use Rattle.etp_table.proofs.Compiling.{value_kept}

@@ -1,4 +1,4 @@
-use Rattle.std.proofs.Common.{◌≡◌, ◌≤◌, ◌<◌, ◌+◌, ◌-◌, ◌^◌, ℕ, length, take, min, rules, arith, sym, subst, ◌∙◌, ap}
+use Rattle.std.proofs.Common.{◌≡◌, ◌≤◌, ◌<◌, ◌+◌, ◌-◌, ◌^◌, length, take, min, arith, sym, subst, ◌∙◌, ap}
 use Rattle.etp_theory.specs.Tables.{place_of}
 use Rattle.etp_table.specs.Verdicts.{limit, AgreesBefore}
 use Rattle.etp_table.specs.Compiled.{law_of}

@@ -1,4 +1,4 @@
-use Rattle.std.proofs.Common.{◌≡◌, ◌<◌, ◌≤◌, ◌+◌, ℕ, List, length, get_or, set, sym, ◌∙◌, subst, arith, rules, below_more, get_or-set_other, get_or-set_same}
+use Rattle.std.proofs.Common.{◌≡◌, ◌<◌, ◌≤◌, ℕ, List, length, get_or, set, sym, ◌∙◌, subst, arith, rules, below_more, get_or-set_other, get_or-set_same}
 use Rattle.etp_table.specs.Tables.{times}
 use Rattle.etp_table.specs.Verdicts.{AgreesAt}
 use Rattle.etp_table.specs.Programs.{Solves}

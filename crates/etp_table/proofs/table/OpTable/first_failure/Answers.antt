@@ -1,9 +1,8 @@
-use Rattle.std.proofs.Common.{◌≤◌, arith, sym, subst, ◌≡◌}
+use Rattle.std.proofs.Common.{arith, subst}
 use Rattle.etp_theory.specs.Trees.{Equation}
 use Rattle.etp_term.specs.Laws.{equation_of}
 use Rattle.etp_laws.proofs.Variables.{HasVariables-bound}
-use Rattle.etp_table.specs.Verdicts.{variables, IsVerdict}
-use Rattle.etp_table.specs.Compiled.{law_of}
+use Rattle.etp_table.specs.Verdicts.{IsVerdict}
 use Rattle.etp_table.proofs.Tables.{few_variables, tells}
 use Rattle.etp_table.proofs.table.OpTable.first_failure.Goals as goal
 

@@ -1,6 +1,6 @@
 use Rattle.std.proofs.Common.{◌≡◌, ◌≤◌, ◌^◌, arith, ap, ◌∙◌}
 use Rattle.etp_term.specs.Laws.{equation_of}
-use Rattle.etp_table.specs.Verdicts.{variables, assignments, limit}
+use Rattle.etp_table.specs.Verdicts.{assignments, limit}
 use Rattle.etp_table.proofs.Tables.{few_variables, holds_in_lists}
 use Rattle.etp_table.proofs.table.OpTable.judge_held.Goals as goal
 
