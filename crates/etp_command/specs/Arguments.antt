@@ -3,7 +3,7 @@ use Rattle.std.specs.Prelude.{◌≡◌, ℕ, List, [], ◌∷◌, codes, ◌&&�
 use Rattle.etp_items.specs.Words.{is_word}
 use Rattle.etp_command.specs.declared.arguments.Task.{Task}
 use Rattle.etp_command.specs.declared.arguments.Task.TheVariants.{Session, Laws, Unknown}
-use Rattle.etp_command.specs.declared.command.ListOrder.TheVariants.{Four, Five}
+use Rattle.etp_command.specs.declared.request.ListOrder.TheVariants.{Four, Five}
 
 -- a session is asked for by its word, or by no word; the list of laws by `laws`, or `laws 5`
 abbrev pub task_of : List (List ℕ) → Task

@@ -1,3 +1,3 @@
 pub mod Requests
-pub mod Commands
+pub mod Values
 pub mod Arguments

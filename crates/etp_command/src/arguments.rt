@@ -2,7 +2,7 @@ ghost use Rattle.std.specs.Prelude.{◌≡◌, ◌∷◌, [], map};
 ghost use Rattle.std.specs.String.{string_bytes};
 ghost use Rattle.etp_command.specs.Arguments.{task_of};
 
-use crate::command::ListOrder;
+use crate::request::ListOrder;
 use etp_items::is;
 
 /// What the words of the command line ask.

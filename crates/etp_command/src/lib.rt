@@ -2,7 +2,9 @@
 #![tactic(auto)]
 
 mod arguments;
-mod command;
+mod query;
+mod request;
 
 pub use arguments::{Task, task_of};
-pub use command::{Command, ListOrder, only_word, read_command};
+pub use query::Query;
+pub use request::{ListOrder, Request, only_word, read_request};

@@ -2,7 +2,7 @@
 use Rattle.std.specs.Prelude.{◌≡◌, ◌<◌, ◌⊎◌, ◌^◌, ℕ, List, length}
 use Rattle.etp_theory.specs.Trees.{Equation}
 use Rattle.etp_laws.specs.Listing.{IsTheList}
-use Rattle.etp_laws.specs.LawLists.{AreDuals}
+use Rattle.etp_laws.specs.LawLists.{LawList, AreDuals}
 use Rattle.etp_closure.specs.Closures.{Known, StandsFor, SameAnswers}
 use Rattle.etp_ledger.specs.Files.{File, facts_of}
 use Rattle.etp_ledger.specs.Accepting.{AreAccepted}
@@ -21,6 +21,13 @@ pub record IsLedger (order : ℕ) (files : List File) (closure : Known) : Type 0
   pub stands : StandsFor closure (facts_of files)
   pub duals : (laws : List Equation) → IsTheList order laws → AreDuals laws closure.duals
   pub accepted : (laws : List Equation) → IsTheList order laws → AreAccepted laws files
+
+-- a ledger over these laws: they are their order's list, and the closure names their duals
+pub record IsOver (laws : LawList) (ledger : Entries) : Type 0 where
+  pub list : IsTheList laws.order laws.equations
+  pub same_order : ledger.order ≡ laws.order
+  pub same_duals : ledger.closure.duals ≡ laws.duals
+  pub same_size : length ledger.closure.duals ≡ length laws.equations
 
 -- the same files, kept laws and answers
 pub record IsUnchanged (old new : Entries) : Type 0 where

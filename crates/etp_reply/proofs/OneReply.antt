@@ -31,8 +31,8 @@ use Rattle.etp_reply.specs.States.{Opened, Opens, Filing, State, unopened, over,
 use Rattle.etp_reply.specs.Shelves.{KnownShelf, HasLines, IsMissing}
 use Rattle.etp_reply.specs.Bodies.{FileReply, no_name, name_taken, not_built, no_body, not_accepted, accepted, BodyReply, goes_on, closes, HasNoName, HasFreeName, refused_file, file_refusal, accepted_line}
 use Rattle.etp_reply.specs.LedgerReplies.{WithdrawReply, no_name as no_such_word, unknown_name, cited, withdrawn}
-use Rattle.etp_command.specs.Requests.{Request, blank, long, order, law, number, dual, ask, file, load, withdraw, files as all_files, counts, not_built as not_built_yet, bad, asked}
-use Rattle.etp_reply.specs.Replies.{law_reply, NumberedReply, too_many, trivial, numbered, NumberReply, unread, read, DualReply, Answers, LoadReply, unreached, loaded, missing, loading, OpenReply, FirstReply, Replies, Closes}
+use Rattle.etp_command.specs.Requests.{Query, law, number, dual, ask, files as all_files, counts, not_built as not_built_yet, Request, blank, long, bad, order, file, load, withdraw, query, asked}
+use Rattle.etp_reply.specs.Replies.{law_reply, NumberedReply, too_many, trivial, numbered, NumberReply, unread, read, DualReply, QueryReply, LoadReply, unreached, loaded, missing, loading, OpenReply, OpenedReply, FirstReply, Replies, Closes}
 use Rattle.etp_reply.proofs.OneAnswer.{ask_reply-only, counts_reply-only}
 
 no_number : (k : ℕ) (laws : List Equation) (p : Equation) (n : ℕ) → IsTheList k laws → IsTrivial p → IsNumberOf laws p n → ⊥
@@ -197,22 +197,15 @@ withdraw_reply-only files word r s g h (withdrawn m w i) (unknown_name n u e x) 
 withdraw_reply-only files word r s g h (withdrawn n w e) (cited at by m st c v i y) = absurd (withdrawn-not files g word (Cited at) w (st, c))
 withdraw_reply-only files word r s g h (withdrawn m w e) (withdrawn n v i) = (e ∙ sym i, w.gone ∙ sym v.gone)
 
--- a request has one reply
-Answers-only : (o : Opened) → IsTheList o.laws.order o.laws.equations → (request : Request) (r s : Reply) (g h : List File) → Answers o request r g → Answers o request s h → (r ≡ s) × (g ≡ h)
-Answers-only o l blank r s g h a b = (a.0 ∙ sym b.0, a.1 ∙ sym b.1)
-Answers-only o l long r s g h a b = (a.0 ∙ sym b.0, a.1 ∙ sym b.1)
-Answers-only o l (order k) r s g h a b = (a.0 ∙ sym b.0, a.1 ∙ sym b.1)
-Answers-only o l (law n) r s g h a b = (a.0 ∙ sym b.0, a.1 ∙ sym b.1)
-Answers-only o l (number text) r s g h a b = (number_reply-only o.laws.order o.laws.equations l text r s a.0 b.0, a.1 ∙ sym b.1)
-Answers-only o l (dual n) r s g h a b = (dual_reply-only o.laws.order o.laws.equations l n (law_numbered o.laws.equations n) r s a.0 b.0, a.1 ∙ sym b.1)
-Answers-only o l (ask e f) r s g h a b = (ask_reply-only o e f r s a.0 b.0, a.1 ∙ sym b.1)
-Answers-only o l (file word) r s g h a b = absurd a
-Answers-only o l (load word) r s g h a b = absurd a
-Answers-only o l (withdraw word) r s g h a b = withdraw_reply-only o.files word r s g h a b
-Answers-only o l all_files r s g h a b = (a.0 ∙ sym b.0, a.1 ∙ sym b.1)
-Answers-only o l counts r s g h a b = (counts_reply-only o r s a.0 b.0, a.1 ∙ sym b.1)
-Answers-only o l not_built_yet r s g h a b = (a.0 ∙ sym b.0, a.1 ∙ sym b.1)
-Answers-only o l bad r s g h a b = (a.0 ∙ sym b.0, a.1 ∙ sym b.1)
+-- a query has one reply
+query_reply-only : (o : Opened) → IsTheList o.laws.order o.laws.equations → (q : Query) (r s : Reply) → QueryReply o q r → QueryReply o q s → r ≡ s
+query_reply-only o l (law n) r s a b = a ∙ sym b
+query_reply-only o l (number text) r s a b = number_reply-only o.laws.order o.laws.equations l text r s a b
+query_reply-only o l (dual n) r s a b = dual_reply-only o.laws.order o.laws.equations l n (law_numbered o.laws.equations n) r s a b
+query_reply-only o l (ask e f) r s a b = ask_reply-only o e f r s a b
+query_reply-only o l all_files r s a b = a ∙ sym b
+query_reply-only o l counts r s a b = counts_reply-only o r s a b
+query_reply-only o l not_built_yet r s a b = a ∙ sym b
 
 -- the state's list is the one of its order
 pub IsRightState : State → Type 0
@@ -225,12 +218,17 @@ IsRightState stopped = Unit {0}
 abbrev pub told : ℕ → (List ℕ → Option (List ℕ)) → KnownShelf
 told limit kept = record { limit = limit; keeps = Some kept }
 
-open-answer : (o : Opened) → IsTheList o.laws.order o.laws.equations → (request : Request) (r s : Reply) (f g : State)
-    → ((fs : List File) × Answers o request r fs × (f ≡ over (record { laws = o.laws; files = fs }))) → ((gs : List File) × Answers o request s gs × (g ≡ over (record { laws = o.laws; files = gs })))
-    → (r ≡ s) × (f ≡ g) × IsRightState f
+-- one reply and one state are written down
+one-state : (r s : Reply) (f g last : State) → IsRightState last → r ≡ s → f ≡ last → g ≡ last → (r ≡ s) × (f ≡ g) × IsRightState f
 unfolding IsRightState
-open-answer o l request r s f g a b =
-    let one = Answers-only o l request r s a.0 b.0 a.1 b.1 in
+one-state r s f g last l e a b = (e, a ∙ sym b, subst IsRightState (sym a) l)
+
+withdraw-state : (o : Opened) → IsTheList o.laws.order o.laws.equations → (word : List ℕ) (r s : Reply) (f g : State)
+    → ((fs : List File) × WithdrawReply o.files word r fs × (f ≡ over (record { laws = o.laws; files = fs })))
+    → ((gs : List File) × WithdrawReply o.files word s gs × (g ≡ over (record { laws = o.laws; files = gs }))) → (r ≡ s) × (f ≡ g) × IsRightState f
+unfolding IsRightState
+withdraw-state o l word r s f g a b =
+    let one = withdraw_reply-only o.files word r s a.0 b.0 a.1 b.1 in
     (one.0, a.2 ∙ ap (λ (k : List File). over (record { laws = o.laws; files = k })) one.1 ∙ sym b.2, subst IsRightState (sym a.2) l)
 
 one_body_lines : (limit : ℕ) (kept : Option (List ℕ)) (a b : List LineText) → HasLines limit a kept → HasLines limit b kept → a ≡ b
@@ -268,20 +266,14 @@ load_reply-only limit kept o l n word r s f g (missing h m a e) (missing k v b i
 open_reply-only : (limit : ℕ) (kept : List ℕ → Option (List ℕ)) (o : Opened) → IsTheList o.laws.order o.laws.equations → (n : ℕ) (request : Request) (r s : Reply) (f g : State)
     → OpenReply (told limit kept) o n request r f → OpenReply (told limit kept) o n request s g → (r ≡ s) × (f ≡ g) × IsRightState f
 unfolding IsRightState
-open_reply-only limit kept o l n blank r s f g a b = open-answer o l blank r s f g a b
-open_reply-only limit kept o l n long r s f g a b = open-answer o l long r s f g a b
-open_reply-only limit kept o l n (order k) r s f g a b = open-answer o l (order k) r s f g a b
-open_reply-only limit kept o l n (law m) r s f g a b = open-answer o l (law m) r s f g a b
-open_reply-only limit kept o l n (number t) r s f g a b = open-answer o l (number t) r s f g a b
-open_reply-only limit kept o l n (dual m) r s f g a b = open-answer o l (dual m) r s f g a b
-open_reply-only limit kept o l n (ask e i) r s f g a b = open-answer o l (ask e i) r s f g a b
-open_reply-only limit kept o l n (file word) r s f g a b = (a.0 ∙ sym b.0, a.1 ∙ sym b.1, subst IsRightState (sym a.1) l)
+open_reply-only limit kept o l n blank r s f g a b = one-state r s f g (over o) l (a.0 ∙ sym b.0) a.1 b.1
+open_reply-only limit kept o l n long r s f g a b = one-state r s f g (over o) l (a.0 ∙ sym b.0) a.1 b.1
+open_reply-only limit kept o l n bad r s f g a b = one-state r s f g (over o) l (a.0 ∙ sym b.0) a.1 b.1
+open_reply-only limit kept o l n (order k) r s f g a b = one-state r s f g (over o) l (a.0 ∙ sym b.0) a.1 b.1
+open_reply-only limit kept o l n (file word) r s f g a b = one-state r s f g (filing o (record { number = n; word = word; lines = [] })) l (a.0 ∙ sym b.0) a.1 b.1
 open_reply-only limit kept o l n (load word) r s f g a b = load_reply-only limit kept o l n word r s f g a b
-open_reply-only limit kept o l n (withdraw word) r s f g a b = open-answer o l (withdraw word) r s f g a b
-open_reply-only limit kept o l n all_files r s f g a b = open-answer o l all_files r s f g a b
-open_reply-only limit kept o l n counts r s f g a b = open-answer o l counts r s f g a b
-open_reply-only limit kept o l n not_built_yet r s f g a b = open-answer o l not_built_yet r s f g a b
-open_reply-only limit kept o l n bad r s f g a b = open-answer o l bad r s f g a b
+open_reply-only limit kept o l n (withdraw word) r s f g a b = withdraw-state o l word r s f g a b
+open_reply-only limit kept o l n (query q) r s f g a b = one-state r s f g (over o) l (query_reply-only o l q r s a.0 b.0) a.1 b.1
 
 abbrev opened_by : ℕ → List Equation → List ℕ → List File → Opened
 opened_by k laws duals files = record { laws = record { order = k; equations = laws; duals = duals }; files = files }
@@ -321,10 +313,10 @@ opens-one k o p a b =
     let whole : opened_by o.laws.order o.laws.equations o.laws.duals o.files ≡ opened_by p.laws.order p.laws.equations p.laws.duals p.files = rw (orders, laws, duals, none) refl in
     whole
 
-opens-only : (limit : ℕ) (kept : List ℕ → Option (List ℕ)) (k n : ℕ) (request : Request) (r s : Reply) (f g : State)
-    → ((o : Opened) × Opens k o × OpenReply (told limit kept) o n request r f) → ((o : Opened) × Opens k o × OpenReply (told limit kept) o n request s g) → (r ≡ s) × (f ≡ g) × IsRightState f
-opens-only limit kept k n request r s f g a b =
-    let same : b.0 ≡ a.0 = opens-one k b.0 a.0 b.1 a.1 in
+opens-only : (limit : ℕ) (kept : List ℕ → Option (List ℕ)) (n : ℕ) (request : Request) (r s : Reply) (f g : State)
+    → OpenedReply (told limit kept) n request r f → OpenedReply (told limit kept) n request s g → (r ≡ s) × (f ≡ g) × IsRightState f
+opens-only limit kept n request r s f g a b =
+    let same : b.0 ≡ a.0 = opens-one 4 b.0 a.0 b.1 a.1 in
     open_reply-only limit kept a.0 (rw a.1.order_is a.1.list) n request r s f g a.2 (subst (λ (o : Opened). OpenReply (told limit kept) o n request s g) same b.2)
 
 first_reply-only : (limit : ℕ) (kept : List ℕ → Option (List ℕ)) (n : ℕ) (request : Request) (r s : Reply) (f g : State)
@@ -334,18 +326,12 @@ first_reply-only limit kept n blank r s f g a b = (a.0 ∙ sym b.0, a.1 ∙ sym 
 first_reply-only limit kept n (order k) r s f g a b =
     let same : a.0 ≡ b.0 = opens-one k a.0 b.0 a.1 b.1 in
     (a.2 ∙ sym b.2, a.3 ∙ ap over same ∙ sym b.3, subst IsRightState (sym a.3) (rw a.1.order_is a.1.list))
-first_reply-only limit kept n long r s f g a b = opens-only limit kept 4 n long r s f g a b
-first_reply-only limit kept n (law m) r s f g a b = opens-only limit kept 4 n (law m) r s f g a b
-first_reply-only limit kept n (number t) r s f g a b = opens-only limit kept 4 n (number t) r s f g a b
-first_reply-only limit kept n (dual m) r s f g a b = opens-only limit kept 4 n (dual m) r s f g a b
-first_reply-only limit kept n (ask e i) r s f g a b = opens-only limit kept 4 n (ask e i) r s f g a b
-first_reply-only limit kept n (file w) r s f g a b = opens-only limit kept 4 n (file w) r s f g a b
-first_reply-only limit kept n (load w) r s f g a b = opens-only limit kept 4 n (load w) r s f g a b
-first_reply-only limit kept n (withdraw w) r s f g a b = opens-only limit kept 4 n (withdraw w) r s f g a b
-first_reply-only limit kept n all_files r s f g a b = opens-only limit kept 4 n all_files r s f g a b
-first_reply-only limit kept n counts r s f g a b = opens-only limit kept 4 n counts r s f g a b
-first_reply-only limit kept n not_built_yet r s f g a b = opens-only limit kept 4 n not_built_yet r s f g a b
-first_reply-only limit kept n bad r s f g a b = opens-only limit kept 4 n bad r s f g a b
+first_reply-only limit kept n long r s f g a b = opens-only limit kept n long r s f g a b
+first_reply-only limit kept n bad r s f g a b = opens-only limit kept n bad r s f g a b
+first_reply-only limit kept n (file w) r s f g a b = opens-only limit kept n (file w) r s f g a b
+first_reply-only limit kept n (load w) r s f g a b = opens-only limit kept n (load w) r s f g a b
+first_reply-only limit kept n (withdraw w) r s f g a b = opens-only limit kept n (withdraw w) r s f g a b
+first_reply-only limit kept n (query q) r s f g a b = opens-only limit kept n (query q) r s f g a b
 
 right-after : (o : Opened) (f : Filing) (line : LineText) (r : Reply) (after : State) → IsTheList o.laws.order o.laws.equations → BodyReply o f line r after → IsRightState after
 unfolding IsRightState

@@ -11,11 +11,11 @@ use Rattle.etp_reply.specs.States as States
 use Rattle.etp_reply.specs.States.{State, Opens, unopened, over, filing, stopped}
 use Rattle.etp_reply.specs.Bodies.{HasFreeName, closes_body, goes_on, closes}
 use Rattle.etp_reply.specs.Shelves.{KnownShelf, IsLoaded}
-use Rattle.etp_reply.specs.Replies.{LoadsName, LoadReply, unreached, loaded, loading, OpenReply, FirstReply, Reaches}
+use Rattle.etp_reply.specs.Replies.{LoadsName, LoadReply, unreached, loaded, loading, OpenReply, OpenedReply, FirstReply, Reaches}
 use Rattle.etp_reply.specs.Given.{GivesState, GivesFile, GivesClose}
 use Rattle.etp_reply.specs.Desks.{opened_of, IsFiling, IsStage}
 use Rattle.etp_reply.specs.Filings.{with_line, Leaves}
-use Rattle.etp_reply.specs.Outcomes.{LoadsFile, IsOutcome, OpenedReply, LineOutcome}
+use Rattle.etp_reply.specs.Outcomes.{LoadsFile, IsOutcome, LineOutcome}
 use Rattle.etp_reply.specs.declared.desk.Opened.{Opened}
 use Rattle.etp_reply.specs.declared.desk.Filing.{Filing}
 use Rattle.etp_reply.specs.declared.reply.Outcome.{Outcome}
@@ -39,7 +39,7 @@ IsOutcome-map s n text opened P Q L M (Replied flag) f g h = GivesState-map n te
 IsOutcome-map s n text opened P Q L M (Reads next) f g h = GivesState-map n text false P Q (IsStage opened (Some next)) f h
 IsOutcome-map s n text opened P Q L M (Loads name next) f g h = loads-map s n name.now opened next text P Q L M f g h
 
--- the list is opened for a command
+-- the list is opened for a request
 pub opens-outcome : (s : KnownShelf) (o p : Opened) (n : ℕ) (request : Request) (text : List ℕ) (outcome : Outcome) → Opens 4 (opened_of o)
     → IsOutcome s n text (Some p) (OpenReply s (opened_of o) n request) (LoadsName o.ledger.files request) outcome
     → IsOutcome s n text (Some p) (OpenedReply s n request) (LoadsName [] request) outcome
@@ -47,7 +47,7 @@ opens-outcome s o p n request text outcome opens h =
     IsOutcome-map s n text (Some p) (OpenReply s (opened_of o) n request) (OpenedReply s n request) (LoadsName o.ledger.files request) (LoadsName [] request) outcome
     (λ reply after x. (opened_of o, opens, x)) (λ name x. (x.0, subst (λ (files : List File). HasFreeName files (Some name) name) opens.no_files x.1)) h
 
--- a command, once the laws stand
+-- a request, once the laws stand
 pub over-outcome : (s : KnownShelf) (o : Opened) (n : ℕ) (request : Request) (line : LineText) (text : List ℕ) (opened : Option Opened) (outcome : Outcome) (state : State) → request ≡ asked line
     → state ≡ over (opened_of o) → IsOutcome s n text opened (OpenReply s (opened_of o) n request) (LoadsName o.ledger.files request) outcome → LineOutcome s state n line text opened outcome
 over-outcome s o n request line text opened outcome state e t h =
@@ -55,7 +55,7 @@ over-outcome s o n request line text opened outcome state e t h =
     (IsOutcome-map s n text opened (OpenReply s (opened_of o) n request) (OpenReply s (opened_of o) n (asked line)) (LoadsName o.ledger.files request) (Reaches (over (opened_of o)) line) outcome
     (λ reply after x. rw e at x) (λ name x. rw e at x) h)
 
--- the first command
+-- the first request
 pub first-outcome : (s : KnownShelf) (n : ℕ) (request : Request) (line : LineText) (text : List ℕ) (opened : Option Opened) (outcome : Outcome) (state : State) → request ≡ asked line
     → state ≡ unopened → IsOutcome s n text opened (FirstReply s n request) (LoadsName [] request) outcome → LineOutcome s state n line text opened outcome
 first-outcome s n request line text opened outcome state e t h =

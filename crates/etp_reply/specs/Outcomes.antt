@@ -2,13 +2,11 @@
 use Rattle.std.specs.Prelude.{◌≡◌, ℕ, List, [], false, None, Some, MatchOption}
 use Rattle.std.specs.declared.option.Option.{Option}
 use Rattle.etp_reply.specs.Texts.{Reply}
-use Rattle.etp_reply.specs.States as States
-use Rattle.etp_reply.specs.States.{State, Opens}
-use Rattle.etp_command.specs.Requests.{Request}
+use Rattle.etp_reply.specs.States.{State}
 use Rattle.etp_io.specs.Texts.{LineText}
 use Rattle.etp_reply.specs.Bodies.{HasFreeName}
 use Rattle.etp_reply.specs.Shelves.{KnownShelf}
-use Rattle.etp_reply.specs.Replies.{OpenReply, LoadReply, Replies, Reaches, loading, answered_line}
+use Rattle.etp_reply.specs.Replies.{LoadReply, Replies, Reaches, loading, answered_line}
 use Rattle.etp_reply.specs.Given.{GivesState}
 use Rattle.etp_reply.specs.Desks.{opened_of, IsFiling, IsStage}
 use Rattle.etp_reply.specs.declared.desk.Opened.{Opened}
@@ -29,10 +27,6 @@ abbrev pub IsOutcome : KnownShelf → ℕ → List ℕ → Option Opened → (Re
 IsOutcome s n text opened IsReply IsLoad (Replied refused) = GivesState n text refused IsReply (IsStage opened None)
 IsOutcome s n text opened IsReply IsLoad (Reads f) = GivesState n text false IsReply (IsStage opened (Some f))
 IsOutcome s n text opened IsReply IsLoad (Loads name f) = MatchOption opened ⊥ (λ o. LoadsFile s n name.now o f text IsReply IsLoad)
-
--- the reply to a request for which the list of order 4 is opened
-abbrev pub OpenedReply : KnownShelf → ℕ → Request → Reply → State → Type 0
-OpenedReply s n request reply after = (o : States.Opened) × Opens 4 o × OpenReply s o n request reply after
 
 -- what line n comes to
 abbrev pub LineOutcome : KnownShelf → State → ℕ → LineText → List ℕ → Option Opened → Outcome → Type 0

@@ -13,7 +13,7 @@ use Rattle.etp_io.specs.Texts.{LineText}
 use Rattle.etp_ledger.specs.Files.{File}
 use Rattle.etp_reply.specs.Texts.{Reply, silent, answered, refused}
 use Rattle.etp_reply.specs.RefusalTexts.{text_refusal}
-use Rattle.etp_command.specs.Requests.{Request, blank, long, order, law, number, dual, ask, file, load, withdraw, files, counts, not_built, bad, asked}
+use Rattle.etp_command.specs.Requests.{Query, law, number, dual, ask, files, counts, not_built, Request, blank, long, bad, order, file, load, withdraw, query, asked}
 use Rattle.etp_reply.specs.States.{Opened, Opens, Filing, State, unopened, over, filing, stopped}
 use Rattle.etp_reply.specs.LedgerReplies.{AskReply, CountsReply, files_text, WithdrawReply}
 use Rattle.etp_reply.specs.Bodies.{BodyReply, FileReply, HasFreeName}
@@ -44,22 +44,15 @@ abbrev pub DualReply : List Equation → ℕ → Option Equation → Reply → T
 DualReply laws n None reply = reply ≡ law_reply n None
 DualReply laws n (Some p) reply = (m : ℕ) × IsNumberOf laws (law_dual p) m × (reply ≡ law_reply m (law_numbered laws m))
 
--- a request has this reply, and these files stand after it
-abbrev pub Answers : Opened → Request → Reply → List File → Type 0
-Answers o blank reply after = (reply ≡ silent) × (after ≡ o.files)
-Answers o long reply after = (reply ≡ refused (codes "long line")) × (after ≡ o.files)
-Answers o (order k) reply after = (reply ≡ refused (codes "bad line")) × (after ≡ o.files)
-Answers o (law n) reply after = (reply ≡ law_reply n (law_numbered o.laws.equations n)) × (after ≡ o.files)
-Answers o (number text) reply after = NumberReply o.laws.order o.laws.equations text reply × (after ≡ o.files)
-Answers o (dual n) reply after = DualReply o.laws.equations n (law_numbered o.laws.equations n) reply × (after ≡ o.files)
-Answers o (ask e f) reply after = AskReply o e f reply × (after ≡ o.files)
-Answers o (file word) reply after = ⊥
-Answers o (load word) reply after = ⊥
-Answers o (withdraw word) reply after = WithdrawReply o.files word reply after
-Answers o files reply after = (reply ≡ answered (files_text o.files)) × (after ≡ o.files)
-Answers o counts reply after = CountsReply o reply × (after ≡ o.files)
-Answers o not_built reply after = (reply ≡ refused (codes "not built")) × (after ≡ o.files)
-Answers o bad reply after = (reply ≡ refused (codes "bad line")) × (after ≡ o.files)
+-- a query has this reply, and changes nothing
+abbrev pub QueryReply : Opened → Query → Reply → Type 0
+QueryReply o (law n) reply = reply ≡ law_reply n (law_numbered o.laws.equations n)
+QueryReply o (number text) reply = NumberReply o.laws.order o.laws.equations text reply
+QueryReply o (dual n) reply = DualReply o.laws.equations n (law_numbered o.laws.equations n) reply
+QueryReply o (ask e f) reply = AskReply o e f reply
+QueryReply o files reply = reply ≡ answered (files_text o.files)
+QueryReply o counts reply = CountsReply o reply
+QueryReply o not_built reply = reply ≡ refused (codes "not built")
 
 -- a file that line n loads under this word, with these body lines
 abbrev pub loading : ℕ → List ℕ → List LineText → Filing
@@ -76,18 +69,27 @@ pub data LoadReply (s : KnownShelf) (o : Opened) (n : ℕ) (word : List ℕ) (re
       → after ≡ over (record { laws = o.laws; files = files }) → LoadReply s o n word reply after
   missing : HasFreeName o.files (Some word) word → HasNoLines s word → reply ≡ silent → after ≡ stopped → LoadReply s o n word reply after
 
--- the reply to line n once the laws stand: `file` opens a body, any other request is answered
+-- the reply to line n once the laws stand
 abbrev pub OpenReply : KnownShelf → Opened → ℕ → Request → Reply → State → Type 0
+OpenReply s o n blank reply after = (reply ≡ silent) × (after ≡ over o)
+OpenReply s o n long reply after = (reply ≡ refused (codes "long line")) × (after ≡ over o)
+OpenReply s o n bad reply after = (reply ≡ refused (codes "bad line")) × (after ≡ over o)
+OpenReply s o n (order k) reply after = (reply ≡ refused (codes "bad line")) × (after ≡ over o)
 OpenReply s o n (file word) reply after = (reply ≡ silent) × (after ≡ filing o (record { number = n; word = word; lines = [] }))
 OpenReply s o n (load word) reply after = LoadReply s o n word reply after
-OpenReply s o n request reply after = (files : List File) × Answers o request reply files × (after ≡ over (record { laws = o.laws; files = files }))
+OpenReply s o n (withdraw word) reply after = (files : List File) × WithdrawReply o.files word reply files × (after ≡ over (record { laws = o.laws; files = files }))
+OpenReply s o n (query q) reply after = QueryReply o q reply × (after ≡ over o)
+
+-- the reply to line n for which the list of order 4 is opened
+abbrev pub OpenedReply : KnownShelf → ℕ → Request → Reply → State → Type 0
+OpenedReply s n request reply after = (o : Opened) × Opens 4 o × OpenReply s o n request reply after
 
 -- The reply to line n where nothing stands yet. The first that isn't blank may be `order`; it sets the
 -- order, which is 4 otherwise, and writes nothing.
 abbrev pub FirstReply : KnownShelf → ℕ → Request → Reply → State → Type 0
 FirstReply s n blank reply after = (reply ≡ silent) × (after ≡ unopened)
 FirstReply s n (order k) reply after = (o : Opened) × Opens k o × (reply ≡ silent) × (after ≡ over o)
-FirstReply s n request reply after = (o : Opened) × Opens 4 o × OpenReply s o n request reply after
+FirstReply s n request reply after = OpenedReply s n request reply after
 
 -- line n has this reply and leaves this state
 abbrev pub Replies : KnownShelf → State → ℕ → LineText → Reply → State → Type 0
@@ -104,19 +106,14 @@ LoadsName standing request name = (request ≡ load name) × HasFreeName standin
 abbrev pub Reaches : State → LineText → List ℕ → Type 0
 Reaches unopened line name = LoadsName [] (asked line) name
 Reaches (over o) line name = LoadsName o.files (asked line) name
-Reaches (filing o f) line name = ⊥
-Reaches stopped line name = ⊥
+Reaches _ line name = ⊥
 
 -- the source ends here: a body that is being read isn't closed
 abbrev pub Closes : State → Reply → Type 0
-Closes unopened reply = reply ≡ silent
-Closes (over o) reply = reply ≡ silent
 Closes (filing o f) reply = (after : List File) × FileReply o f false reply after
-Closes stopped reply = reply ≡ silent
+Closes _ reply = reply ≡ silent
 
 -- the number of the line that is answered: that of the file where a body is read
 abbrev pub answered_line : State → ℕ → ℕ
-answered_line unopened n = n
-answered_line (over o) n = n
 answered_line (filing o f) n = f.number
-answered_line stopped n = n
+answered_line _ n = n

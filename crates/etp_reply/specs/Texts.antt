@@ -6,7 +6,7 @@ pub data Reply : Type 0 where
   answered : List ℕ → Reply
   refused : List ℕ → Reply
 
--- the lines that are written for the command of line n
+-- the lines that are written for the request of line n
 abbrev pub reply_text : ℕ → Reply → List ℕ
 reply_text n silent = []
 reply_text n (answered text) = text

@@ -1,6 +1,6 @@
 ghost use Rattle.std.specs.Prelude.{◌≡◌, IfOk, IfSome};
 ghost use Rattle.etp_reply.specs.States.{Opens, unopened};
-ghost use Rattle.etp_command.specs.Commands.{operations_of};
+ghost use Rattle.etp_command.specs.Values.{operations_of};
 ghost use Rattle.etp_reply.specs.Desks.{opened_of, Agrees, IsDesk};
 
 use etp_command::ListOrder;
@@ -32,7 +32,7 @@ impl Opened {
 /// What becomes of a file whose body is being read: it is refused, whatever its lines say, or read.
 #[derive(Drop)]
 pub enum Pending {
-    /// Its line is no command.
+    /// Its line has no name.
     BadLine,
     /// Its name stands.
     NameTaken(Name),

@@ -2,6 +2,7 @@
 ghost use Rattle.std.specs.Prelude.{◌≡◌, ◌↔◌, IsTrue, ◌<◌, ◌++◌, ◌∷◌, [], IfOk, OnOk, false, length, codes};
 ghost use Rattle.etp_items.specs.Bodies.{body_of};
 ghost use Rattle.etp_replay.specs.Names.{IsName};
+ghost use Rattle.etp_reply.specs.Texts.{answered};
 ghost use Rattle.etp_reply.specs.LedgerReplies.{AskReply, CountsReply, WithdrawReply, pair_line, answer_text, counts_line, files_text, kind_text};
 ghost use Rattle.etp_reply.specs.Given.{Gives, GivesThen, RefusesCited};
 ghost use Rattle.etp_reply.specs.Desks.{opened_of, Agrees};
@@ -109,9 +110,13 @@ fn append_file(text: &mut Text, name: &[u8], body: &Body) -> Result<(), AllocErr
 }
 
 /// Writes a line for each file that stands, and how many there are.
-pub(crate) fn answer_files(text: &mut Text, ledger: &Ledger) -> Result<bool, AllocError>
+pub(crate) fn answer_files(
+    text: &mut Text,
+    ledger: &Ledger,
+    line: u64,
+) -> Result<bool, AllocError>
     requires { text.old ≡ [] }
-    ensures { IfOk result (λ refusal. (text.new ≡ files_text ledger.now.files) × (refusal ≡ false)) }
+    ensures { IfOk result (λ refusal. Gives line text.new refusal (λ reply. reply ≡ answered (files_text ledger.now.files))) }
 {
     let count = ledger.count();
     'files: for at in 0..count {

@@ -7,20 +7,20 @@ ghost use Rattle.etp_theory.specs.Numbered.{law_numbered};
 ghost use Rattle.etp_text.specs.Refusals.{side_limit};
 ghost use Rattle.etp_items.specs.Reading.{given_text};
 ghost use Rattle.etp_command.specs.Requests.{asked, load};
-ghost use Rattle.etp_command.specs.Commands.{request_from, IsWithin, IsNoFile};
+ghost use Rattle.etp_command.specs.Values.{request_from, query_from, IsQueryWithin, IsWithin};
 ghost use Rattle.etp_reply.specs.Texts.{reply_text, is_refusal, refused};
-ghost use Rattle.etp_reply.specs.Replies.{LoadsName, law_line, law_reply, NumberedReply, NumberReply, DualReply, Answers, LoadReply, OpenReply, FirstReply};
+ghost use Rattle.etp_reply.specs.Replies.{LoadsName, law_line, law_reply, NumberedReply, NumberReply, DualReply, QueryReply, LoadReply, OpenReply, OpenedReply, FirstReply};
 ghost use Rattle.etp_reply.specs.States.{State};
 ghost use Rattle.etp_reply.specs.Given.{Gives, GivesThen, GivesClose};
 ghost use Rattle.etp_reply.specs.Desks.{opened_of, Agrees, IsStage, IsDesk, IsSound};
 ghost use Rattle.etp_reply.specs.Filings.{Leaves};
 ghost use Rattle.etp_reply.specs.Shelves.{KnownShelf};
-ghost use Rattle.etp_reply.specs.Outcomes.{OpenedReply, IsOutcome, LineOutcome};
+ghost use Rattle.etp_reply.specs.Outcomes.{IsOutcome, LineOutcome};
 
 use crate::desk::{Desk, Filing, Opened};
 use crate::filing::{answer_file, closes_body, has_free_name, open_file, take_line};
 use crate::pairs::{answer_counts, answer_files, answer_pair, answer_withdrawal};
-use etp_command::{Command, ListOrder, read_command};
+use etp_command::{ListOrder, Query, Request, read_request};
 use etp_laws::{Laws, Numbered};
 use etp_term::Law;
 use etp_text::{Text, TextRefusal, read_law};
@@ -129,35 +129,28 @@ fn answer_number(
     }
 }
 
-// Writes the reply to a command once the laws stand, and answers whether it is a refusal.
+// Writes the reply to a query, and answers whether it is a refusal.
 fn answer(
     alloc: Global,
     text: &mut Text,
-    opened: &mut Opened,
-    command: Command<'_>,
+    opened: &Opened,
+    query: Query<'_>,
     line: u64,
 ) -> Result<bool, AllocError>
     requires empty { text.old ≡ [] }
-    requires agrees { Agrees opened.old }
-    requires short { IsWithin 4096 command }
-    requires no_file { IsNoFile command }
-    ensures { IfOk result (λ refusal. GivesThen line text.new refusal (Answers (opened_of opened.old) (request_from command.entry)) (Leaves opened.old opened.new)) }
+    requires agrees { Agrees opened.now }
+    requires short { IsQueryWithin 4096 query }
+    ensures { IfOk result (λ refusal. Gives line text.new refusal (QueryReply (opened_of opened.now) (query_from query.entry))) }
 {
     let laws = &opened.laws;
-    match command {
-        Command::Blank => Ok(false),
-        Command::Long => refuse(text, line, b"long line"),
-        Command::Order(_) => refuse(text, line, b"bad line"),
-        Command::Law(n) => answer_law(text, laws, n, line),
-        Command::Number(spelling) => answer_number(alloc, text, laws, spelling, line),
-        Command::Dual(n) => answer_dual(text, laws, n, line),
-        Command::Ask(e, f) => answer_pair(text, opened, e, f, line),
-        Command::File(_) | Command::Load(_) => unreachable!(),
-        Command::Withdraw(word) => answer_withdrawal(alloc, text, opened, word, line),
-        Command::Files => answer_files(text, &opened.ledger),
-        Command::Counts => answer_counts(text, opened, line),
-        Command::NotBuilt => refuse(text, line, b"not built"),
-        Command::Bad => refuse(text, line, b"bad line"),
+    match query {
+        Query::Law(n) => answer_law(text, laws, n, line),
+        Query::Number(spelling) => answer_number(alloc, text, laws, spelling, line),
+        Query::Dual(n) => answer_dual(text, laws, n, line),
+        Query::Ask(e, f) => answer_pair(text, opened, e, f, line),
+        Query::Files => answer_files(text, &opened.ledger, line),
+        Query::Counts => answer_counts(text, opened, line),
+        Query::NotBuilt => refuse(text, line, b"not built"),
     }
 }
 
@@ -172,29 +165,46 @@ pub enum Outcome<'a> {
     Loads(&'a [u8], Filing),
 }
 
-// Obeys a command once the laws stand.
+// Obeys a request once the laws stand.
 fn obey<'a>(
     alloc: Global,
     text: &mut Text,
     opened: &mut Opened,
-    command: Command<'a>,
+    request: Request<'a>,
     line: u64,
 ) -> Result<Outcome<'a>, AllocError>
     requires empty { text.old ≡ [] }
     requires agrees { Agrees opened.old }
-    requires short { IsWithin 4096 command }
-    ensures gives { IfOk result (λ outcome. (s : KnownShelf) → IsOutcome s line text.new (Some opened.new) (OpenReply s (opened_of opened.old) line (request_from command.entry))
-        (LoadsName opened.old.ledger.files (request_from command.entry)) outcome) }
+    requires short { IsWithin 4096 request }
+    ensures gives { IfOk result (λ outcome. (s : KnownShelf) → IsOutcome s line text.new (Some opened.new) (OpenReply s (opened_of opened.old) line (request_from request.entry))
+        (LoadsName opened.old.ledger.files (request_from request.entry)) outcome) }
     ensures agrees { OnOk result (Agrees opened.new) }
 {
-    match command {
-        Command::File(word) => {
+    match request {
+        Request::Blank => Ok(Outcome::Replied(false)),
+        Request::Long => {
+            let refused = refuse(text, line, b"long line")?;
+            Ok(Outcome::Replied(refused))
+        }
+        Request::Bad => {
+            let refused = refuse(text, line, b"bad line")?;
+            Ok(Outcome::Replied(refused))
+        }
+        Request::Order(_) => {
+            let refused = refuse(text, line, b"bad line")?;
+            Ok(Outcome::Replied(refused))
+        }
+        Request::File(word) => {
             let filing = open_file(alloc, opened, word, line)?;
             Ok(Outcome::Reads(filing))
         }
-        Command::Load(word) => open_load(alloc, text, opened, word, line),
-        _ => {
-            let refused = answer(alloc, text, opened, command, line)?;
+        Request::Load(word) => open_load(alloc, text, opened, word, line),
+        Request::Withdraw(word) => {
+            let refused = answer_withdrawal(alloc, text, opened, word, line)?;
+            Ok(Outcome::Replied(refused))
+        }
+        Request::Query(query) => {
+            let refused = answer(alloc, text, opened, query, line)?;
             Ok(Outcome::Replied(refused))
         }
     }
@@ -222,67 +232,67 @@ fn open_load<'a>(
     Ok(Outcome::Replied(refused))
 }
 
-// Obeys a command where nothing stands yet. The first that isn't blank opens the list of laws.
+// Obeys a request where nothing stands yet. The first that isn't blank opens the list of laws.
 fn obey_first<'a>(
     alloc: Global,
     text: &mut Text,
     desk: &mut Desk,
-    command: Command<'a>,
+    request: Request<'a>,
     line: u64,
 ) -> Result<Outcome<'a>, AllocError>
     requires empty { text.old ≡ [] }
     requires unopened { desk.old.opened ≡ None }
-    requires short { IsWithin 4096 command }
-    ensures gives { IfOk result (λ outcome. (s : KnownShelf) → IsOutcome s line text.new desk.new.opened (FirstReply s line (request_from command.entry))
-        (LoadsName [] (request_from command.entry)) outcome) }
+    requires short { IsWithin 4096 request }
+    ensures gives { IfOk result (λ outcome. (s : KnownShelf) → IsOutcome s line text.new desk.new.opened (FirstReply s line (request_from request.entry))
+        (LoadsName [] (request_from request.entry)) outcome) }
     ensures agrees { OnOk result (IfSome desk.new.opened Agrees) }
     ensures filing { desk.new.filing ≡ desk.old.filing }
 {
-    match command {
-        Command::Blank => Ok(Outcome::Replied(false)),
-        Command::Order(order) => {
+    match request {
+        Request::Blank => Ok(Outcome::Replied(false)),
+        Request::Order(order) => {
             desk.opened = Some(Opened::start(alloc, order)?);
             Ok(Outcome::Replied(false))
         }
-        _ => open_and_obey(alloc, text, desk, command, line),
+        _ => open_and_obey(alloc, text, desk, request, line),
     }
 }
 
-// Opens the list of order 4 and obeys a command.
+// Opens the list of order 4 and obeys a request.
 fn open_and_obey<'a>(
     alloc: Global,
     text: &mut Text,
     desk: &mut Desk,
-    command: Command<'a>,
+    request: Request<'a>,
     line: u64,
 ) -> Result<Outcome<'a>, AllocError>
     requires empty { text.old ≡ [] }
-    requires short { IsWithin 4096 command }
-    ensures gives { IfOk result (λ outcome. (s : KnownShelf) → IsOutcome s line text.new desk.new.opened (OpenedReply s line (request_from command.entry))
-        (LoadsName [] (request_from command.entry)) outcome) }
+    requires short { IsWithin 4096 request }
+    ensures gives { IfOk result (λ outcome. (s : KnownShelf) → IsOutcome s line text.new desk.new.opened (OpenedReply s line (request_from request.entry))
+        (LoadsName [] (request_from request.entry)) outcome) }
     ensures agrees { OnOk result (IfSome desk.new.opened Agrees) }
     ensures filing { desk.new.filing ≡ desk.old.filing }
 {
     let mut opened = Opened::start(alloc, ListOrder::Four)?;
-    let outcome = obey(alloc, text, &mut opened, command, line)?;
+    let outcome = obey(alloc, text, &mut opened, request, line)?;
     desk.opened = Some(opened);
     Ok(outcome)
 }
 
 // What the line asks; a line that is too long is never looked at.
-fn command_of(line: Option<&[u8]>) -> Command<'_>
+fn request_in(line: Option<&[u8]>) -> Request<'_>
     requires { IfSome line (λ line. length line.now ≤ 4096) }
     ensures request { request_from result ≡ asked (given_text line.entry) }
     ensures short { IsWithin 4096 result }
 {
     match line {
-        Some(line) => read_command(line),
-        None => Command::Long,
+        Some(line) => read_request(line),
+        None => Request::Long,
     }
 }
 
 // Obeys a line where no body is read.
-fn respond_to_command<'a>(
+fn respond_to_request<'a>(
     alloc: Global,
     text: &mut Text,
     desk: &mut Desk,
@@ -297,10 +307,10 @@ fn respond_to_command<'a>(
     ensures agrees { OnOk result (IfSome desk.new.opened Agrees) }
     ensures no_body { desk.new.filing ≡ None }
 {
-    let command = command_of(line);
+    let request = request_in(line);
     match &mut desk.opened {
-        Some(opened) => obey(alloc, text, opened, command, number),
-        None => obey_first(alloc, text, desk, command, number),
+        Some(opened) => obey(alloc, text, opened, request, number),
+        None => obey_first(alloc, text, desk, request, number),
     }
 }
 
@@ -348,7 +358,7 @@ pub fn respond<'a>(
 {
     match desk.filing.take() {
         Some(filing) => respond_in_body(alloc, text, desk, filing, line),
-        None => respond_to_command(alloc, text, desk, line, number),
+        None => respond_to_request(alloc, text, desk, line, number),
     }
 }
 

@@ -2,7 +2,7 @@ use crate::{Desk, Outcome, respond, respond_at_end, take_line};
 use etp_text::Text;
 
 #[test]
-fn a_command_is_answered(rt: HostRuntime) {
+fn a_query_is_answered(rt: HostRuntime) {
     let alloc = rt.alloc();
     let mut desk = Desk::start();
     let mut text = Text::empty(alloc);

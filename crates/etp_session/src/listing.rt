@@ -1,7 +1,7 @@
 ghost use Rattle.std.specs.Prelude.{◌≡◌, OnOk, OnErr};
 ghost use Rattle.etp_io.specs.Causes.{Rose, HasCause};
 ghost use Rattle.etp_io.specs.Stream.{AppendsPrefix};
-ghost use Rattle.etp_command.specs.Commands.{operations_of};
+ghost use Rattle.etp_command.specs.Values.{operations_of};
 ghost use Rattle.etp_session.specs.Listings.{ListsLaws, MovesFront};
 
 use etp_command::ListOrder;

@@ -2,7 +2,7 @@ ghost use Rattle.std.specs.Prelude.{◌≡◌, ◌∷◌, [], ◌+◌, ◌-◌, 
 ghost use Rattle.std.specs.String.{string_bytes};
 ghost use Rattle.etp_io.specs.Causes.{Rose};
 ghost use Rattle.etp_command.specs.Arguments.{task_of, IsTask};
-ghost use Rattle.etp_command.specs.Commands.{operations_of};
+ghost use Rattle.etp_command.specs.Values.{operations_of};
 ghost use Rattle.etp_session.specs.Listings.{ListsLaws};
 ghost use Rattle.etp_session.specs.Sessions.{IsSession, IsWholeSession, ReachesShelf};
 ghost use Rattle.etp_io.specs.Kept.{kept_or_empty};

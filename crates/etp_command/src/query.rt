@@ -1,0 +1,103 @@
+// Queries, read by their first word and what follows it.
+ghost use Rattle.std.specs.Prelude.{ℕ, ◌≡◌, ◌≤◌, ◌<◌, ◌++◌, ◌∷◌, ◌⊎◌, [], take, drop, length, IfSome, MatchOption, None, Some, not, true};
+ghost use Rattle.std.specs.List.{list_any};
+ghost use Rattle.std.specs.Option.{option_map};
+ghost use Rattle.etp_text.specs.Machine.{skip_blanks};
+ghost use Rattle.etp_items.specs.Words.{words_of, is_word};
+ghost use Rattle.etp_command.specs.Requests.{only_pair, number_query, lone_query, unbuilt, query_of};
+ghost use Rattle.etp_command.specs.Values.{query_from, IsQueryWithin};
+
+use crate::request::only_number;
+use etp_items::{is, next_word, number_word, skip_blanks};
+
+/// What is asked of the laws, of the files that stand and of the answers; it changes none of them.
+/// The text of `number` is a part of the line.
+#[derive(Clone, Copy)]
+pub enum Query<'a> {
+    Law(u32),
+    Number(&'a [u8]),
+    Dual(u32),
+    Ask(u32, u32),
+    Files,
+    Counts,
+    NotBuilt,
+}
+
+// Two numbers that are the only words.
+fn only_pair(rest: &[u8]) -> Option<(u32, u32)>
+    ensures { result ≡ only_pair (words_of rest.now) }
+{
+    let (first, rest) = next_word(rest)?;
+    let (second, rest) = next_word(rest)?;
+    if next_word(rest).is_some() {
+        return None;
+    }
+    Some((number_word(first)?, number_word(second)?))
+}
+
+fn number_query(rest: &[u8]) -> Option<Query<'_>>
+    ensures query { option_map query_from result ≡ number_query (skip_blanks rest.now) }
+    ensures within { (most : ℕ) → length rest.now ≤ most → IfSome result (λ q. IsQueryWithin most q) }
+{
+    let text = skip_blanks(rest);
+    if text.is_empty() {
+        None
+    } else {
+        Some(Query::Number(text))
+    }
+}
+
+// A query that is a word alone.
+fn lone_query<'a>(query: Query<'a>, rest: &[u8]) -> Option<Query<'a>>
+    requires { (most : ℕ) → IsQueryWithin most query }
+    ensures query { option_map query_from result ≡ lone_query (query_from query.entry) (words_of rest.now) }
+    ensures within { (most : ℕ) → IfSome result (λ q. IsQueryWithin most q) }
+{
+    if next_word(rest).is_some() {
+        None
+    } else {
+        Some(query)
+    }
+}
+
+fn is_unbuilt(word: &[u8]) -> bool
+    ensures { result ≡ list_any (is_word word.now) unbuilt }
+{
+    is(word, "why")
+        || is(word, "row")
+        || is(word, "class")
+        || is(word, "classes")
+        || is(word, "csv")
+        || is(word, "ledger")
+        || is(word, "profile")
+}
+
+/// Reads a query by its first word and what follows it.
+pub(crate) fn read_query<'a>(word: &[u8], rest: &'a [u8]) -> Option<Query<'a>>
+    ensures query { option_map query_from result ≡ query_of word.now (skip_blanks rest.now) (words_of rest.now) }
+    ensures within { (most : ℕ) → length rest.now ≤ most → IfSome result (λ q. IsQueryWithin most q) }
+{
+    if is(word, "law") {
+        return Some(Query::Law(only_number(rest)?));
+    }
+    if is(word, "number") {
+        return number_query(rest);
+    }
+    if is(word, "dual") {
+        return Some(Query::Dual(only_number(rest)?));
+    }
+    if is(word, "ask") {
+        let (e, f) = only_pair(rest)?;
+        return Some(Query::Ask(e, f));
+    }
+    if is(word, "files") {
+        return lone_query(Query::Files, rest);
+    }
+    if is(word, "counts") {
+        return lone_query(Query::Counts, rest);
+    }
+    if is_unbuilt(word) {
+        return Some(Query::NotBuilt);
+    }
+    None
+}
