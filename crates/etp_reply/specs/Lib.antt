@@ -1,11 +1,5 @@
-pub mod Texts
-pub mod RefusalTexts
-pub mod States
-pub mod Bodies
 pub mod Shelves
-pub mod LedgerReplies
 pub mod Replies
-pub mod Desks
-pub mod Filings
 pub mod Given
+pub mod Desks
 pub mod Outcomes

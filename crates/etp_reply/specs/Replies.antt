@@ -1,62 +1,29 @@
--- What a request is answered.
-use Rattle.std.specs.Prelude.{◌≡◌, ◌≢◌, ℕ, ◌<◌, ◌≤◌, List, [], ◌∷◌, ◌++◌, codes, decimal, true, false, None, Some}
+-- What a line is answered.
+use Rattle.std.specs.Prelude.{◌≡◌, ℕ, List, [], ◌++◌, codes, true, false, Some}
 use Rattle.std.specs.declared.option.Option.{Option}
-use Rattle.etp_theory.specs.Trees.{Equation, leaves, law_ops, law_dual}
 use Rattle.etp_theory.specs.Numbered.{law_numbered}
-use Rattle.etp_laws.specs.LawLists.{IsNumberOf, IsTrivial}
-use Rattle.etp_text.specs.Written.{written_law}
-use Rattle.etp_text.specs.Grammar.{SpellsLaw}
-use Rattle.etp_text.specs.Refusals.{RefusesLaw, side_limit}
-use Rattle.etp_text.specs.declared.refusal.TextRefusal.{TextRefusal}
-use Rattle.etp_text.specs.declared.refusal.TextRefusal.TheVariants.{NoMemory}
 use Rattle.etp_io.specs.Texts.{LineText}
 use Rattle.etp_ledger.specs.Files.{File}
-use Rattle.etp_reply.specs.Texts.{Reply, silent, answered, refused}
-use Rattle.etp_reply.specs.RefusalTexts.{text_refusal}
 use Rattle.etp_command.specs.Requests.{Query, law, number, dual, ask, files, counts, not_built, Request, blank, long, bad, order, file, load, withdraw, query, asked}
-use Rattle.etp_reply.specs.States.{Opened, Opens, Filing, State, unopened, over, filing, stopped}
-use Rattle.etp_reply.specs.LedgerReplies.{AskReply, CountsReply, files_text, WithdrawReply}
-use Rattle.etp_reply.specs.Bodies.{BodyReply, FileReply, HasFreeName}
+use Rattle.etp_print.specs.Texts.{Reply, silent, answered, refused}
+use Rattle.etp_show.specs.LawReplies.{law_reply, NumberReply, DualReply}
+use Rattle.etp_show.specs.FileLists.{files_text}
+use Rattle.etp_survey.specs.PairReplies.{AskReply, CountsReply}
+use Rattle.etp_desk.specs.States.{Opened, Opens, State, unopened, over, filing, stopped}
+use Rattle.etp_filing.specs.FileReplies.{BodyReply, FileReply, HasFreeName}
+use Rattle.etp_filing.specs.Filings.{loading}
+use Rattle.etp_filing.specs.Withdrawals.{WithdrawReply}
 use Rattle.etp_reply.specs.Shelves.{KnownShelf, IsLoaded, HasNoLines}
-
--- a law with its number before it, as a line
-abbrev pub law_line : ℕ → Equation → List ℕ
-law_line n p = decimal n ++ codes " " ++ written_law p ++ 10 ∷ []
-
--- law n, or that there is none
-abbrev pub law_reply : ℕ → Option Equation → Reply
-law_reply n None = refused (codes "unknown law " ++ decimal n)
-law_reply n (Some p) = answered (law_line n p)
-
--- the reply to the number of a law, where these are the laws of at most k operations
-pub data NumberedReply (k : ℕ) (laws : List Equation) (p : Equation) (reply : Reply) : Type 0 where
-  too_many : k < law_ops p → reply ≡ refused (codes "operations " ++ decimal (law_ops p)) → NumberedReply k laws p reply
-  trivial : law_ops p ≤ k → IsTrivial p → reply ≡ refused (codes "trivial") → NumberedReply k laws p reply
-  numbered : (n : ℕ) → law_ops p ≤ k → IsNumberOf laws p n → reply ≡ law_reply n (law_numbered laws n) → NumberedReply k laws p reply
-
--- the reply to a law's text
-pub data NumberReply (k : ℕ) (laws : List Equation) (text : List ℕ) (reply : Reply) : Type 0 where
-  unread : (refusal : TextRefusal) → RefusesLaw text refusal → refusal ≢ NoMemory → reply ≡ refused (text_refusal refusal) → NumberReply k laws text reply
-  read : (p : Equation) → SpellsLaw text p → leaves p.left ≤ side_limit → leaves p.right ≤ side_limit → NumberedReply k laws p reply → NumberReply k laws text reply
-
--- the law that is the same as the dual of law n, or that there is no law n
-abbrev pub DualReply : List Equation → ℕ → Option Equation → Reply → Type 0
-DualReply laws n None reply = reply ≡ law_reply n None
-DualReply laws n (Some p) reply = (m : ℕ) × IsNumberOf laws (law_dual p) m × (reply ≡ law_reply m (law_numbered laws m))
 
 -- a query has this reply, and changes nothing
 abbrev pub QueryReply : Opened → Query → Reply → Type 0
 QueryReply o (law n) reply = reply ≡ law_reply n (law_numbered o.laws.equations n)
 QueryReply o (number text) reply = NumberReply o.laws.order o.laws.equations text reply
 QueryReply o (dual n) reply = DualReply o.laws.equations n (law_numbered o.laws.equations n) reply
-QueryReply o (ask e f) reply = AskReply o e f reply
+QueryReply o (ask e f) reply = AskReply o.laws o.files e f reply
 QueryReply o files reply = reply ≡ answered (files_text o.files)
-QueryReply o counts reply = CountsReply o reply
+QueryReply o counts reply = CountsReply o.laws o.files reply
 QueryReply o not_built reply = reply ≡ refused (codes "not built")
-
--- a file that line n loads under this word, with these body lines
-abbrev pub loading : ℕ → List ℕ → List LineText → Filing
-loading n word lines = record { number = n; word = Some word; lines = lines }
 
 -- The reply to line n, which loads a file. The shelf is reached only where the word is a name and is
 -- free; the whole bytes of the name are then the body, which their end closes. Where the name isn't

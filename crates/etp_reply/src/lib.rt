@@ -1,15 +1,13 @@
-//! What a session keeps between two lines, and its replies to them.
+//! What a session keeps between two lines, and what each line comes to.
 #![tactic(auto)]
 
 mod desk;
-mod filing;
-mod pairs;
-mod refusal_text;
+mod query;
 mod reply;
 
-pub use desk::{Desk, Filing, Opened, Pending};
-pub use filing::{answer_file, take_line};
-pub use reply::{Outcome, append_law_line, respond, respond_at_end};
+pub use desk::Desk;
+pub use etp_filing::{Filing, take_line};
+pub use reply::{Outcome, respond, respond_at_end, respond_loaded};
 
 #[cfg(test)]
 mod tests;

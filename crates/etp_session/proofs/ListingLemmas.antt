@@ -12,7 +12,7 @@ use Rattle.etp_laws.specs.Listing.{IsTheList}
 use Rattle.etp_theory.specs.Numbered.{law_numbered}
 use Rattle.etp_laws.proofs.Entries.{entry_after}
 use Rattle.etp_laws.proofs.Unique.{IsTheList-unique}
-use Rattle.etp_reply.specs.Replies.{law_line}
+use Rattle.etp_show.specs.LawReplies.{law_line}
 use Rattle.etp_session.specs.Listings.{laws_text, WritesLaws, WritesSomeLaws, ListsLaws, MovesFront}
 
 no_law : {X : Type 0} (i : ℕ) (p : Equation) → slice_get [] i ≡ Some p → X

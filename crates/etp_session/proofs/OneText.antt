@@ -1,6 +1,6 @@
 -- A session has one text: each line has one reply and leaves one state.
 use Rattle.std.proofs.Common.{◌≡◌, ℕ, List, [], ◌∷◌, refl, sym, ◌∙◌, subst, Option, Bool}
-use Rattle.etp_reply.specs.States.{State, unopened}
+use Rattle.etp_desk.specs.States.{State, unopened}
 use Rattle.etp_reply.specs.Replies.{Closes}
 use Rattle.etp_reply.proofs.OneReply.{told, IsRightState, right_start, Replies-only, closes-only}
 use Rattle.etp_session.specs.Sessions.{Item, Session, IsSession, items_of}

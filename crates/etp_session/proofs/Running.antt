@@ -14,8 +14,8 @@ use Rattle.etp_io.specs.Answers.{Fits, GivesLines, PartGives, to_come, says}
 use Rattle.etp_io.specs.declared.lines.Next.{Next}
 use Rattle.etp_io.specs.declared.lines.Next.TheVariants.{Line, Long, End}
 use Rattle.etp_io.proofs.Laws.{Appends-then, Appends-none, IsPrefix-all, Loses-then, Loses-none, lines_of-append}
-use Rattle.etp_reply.specs.Texts.{reply_text, is_refusal}
-use Rattle.etp_reply.specs.States.{State, unopened}
+use Rattle.etp_print.specs.Texts.{reply_text, is_refusal}
+use Rattle.etp_desk.specs.States.{State, unopened}
 use Rattle.etp_reply.specs.Shelves.{KnownShelf}
 use Rattle.etp_reply.specs.Replies.{Reaches, answered_line}
 use Rattle.etp_session.specs.Sessions.{Item, Session, IsWholeSession, AnswersLines, StopsAtLoad, ReachesShelf, BeginsInLines, Begins, in_lines, at_end, items_from, items_of}

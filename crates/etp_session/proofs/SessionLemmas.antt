@@ -1,8 +1,8 @@
 -- Sessions that grow by a line.
 use Rattle.std.proofs.Common.{◌≡◌, ℕ, ◌+◌, List, [], ◌∷◌, ◌++◌, length, refl, sym, ◌∙◌, ap, subst, append_assoc, append-nil, add-zero, Bool, true, false, ◌||◌, arith}
 use Rattle.etp_io.specs.Texts.{LineText}
-use Rattle.etp_reply.specs.Texts.{Reply, reply_text, is_refusal}
-use Rattle.etp_reply.specs.States.{State}
+use Rattle.etp_print.specs.Texts.{Reply, reply_text, is_refusal}
+use Rattle.etp_desk.specs.States.{State}
 use Rattle.etp_reply.specs.Shelves.{KnownShelf}
 use Rattle.etp_reply.specs.Replies.{Replies, answered_line}
 use Rattle.etp_session.specs.Sessions.{Item, Session, items_from}

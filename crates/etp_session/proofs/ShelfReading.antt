@@ -14,15 +14,15 @@ use Rattle.etp_io.specs.declared.lines.Next.{Next}
 use Rattle.etp_io.specs.declared.lines.Next.TheVariants.{End}
 use Rattle.etp_io.proofs.Laws.{Loses-none, lines_of-append}
 use Rattle.etp_items.specs.Reading.{given_text}
-use Rattle.etp_reply.specs.States as States
+use Rattle.etp_desk.specs.States as States
 use Rattle.etp_reply.specs.Shelves.{KnownShelf, HasLines, IsLong, IsTooLong}
 use Rattle.etp_session.specs.Ends.{Takes}
 use Rattle.etp_session.specs.Endings.{line_text}
-use Rattle.etp_reply.specs.Desks.{IsFiling}
-use Rattle.etp_reply.specs.Filings.{with_line}
+use Rattle.etp_filing.specs.Filings.{IsFiling}
+use Rattle.etp_filing.specs.Filings.{with_line}
 use Rattle.etp_session.specs.Loads.{with_lines, LoadedLines}
-use Rattle.etp_reply.specs.declared.desk.Opened.{Opened}
-use Rattle.etp_reply.specs.declared.desk.Filing.{Filing}
+use Rattle.etp_desk.specs.declared.opened.Opened.{Opened}
+use Rattle.etp_filing.specs.declared.filing.Filing.{Filing}
 use Rattle.etp_session.proofs.Parts.{to_last_newline-both}
 use Rattle.etp_session.proofs.Running.{takes-more, rises-by_none, no_part, at-end, says-line}
 

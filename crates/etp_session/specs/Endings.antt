@@ -8,7 +8,7 @@ use Rattle.etp_io.specs.Stream.{IsPrefix}
 use Rattle.etp_io.specs.Texts.{LineText, whole, too_long}
 use Rattle.etp_session.specs.declared.serving.Ending.{Ending}
 use Rattle.etp_session.specs.declared.serving.Ending.TheVariants.{Done, ReadFault, WriteFault, NoMemory, TooMuch}
-use Rattle.etp_reply.specs.States.{State}
+use Rattle.etp_desk.specs.States.{State}
 use Rattle.etp_reply.specs.Given.{GivesClose}
 
 -- the line that was read

@@ -5,7 +5,7 @@ use Rattle.std.specs.Io.KnownBytes.{Appends}
 use Rattle.etp_io.specs.Stream.{IsPrefix}
 use Rattle.etp_theory.specs.Trees.{Equation}
 use Rattle.etp_laws.specs.Listing.{IsTheList}
-use Rattle.etp_reply.specs.Replies.{law_line}
+use Rattle.etp_show.specs.LawReplies.{law_line}
 
 -- the lines of laws that are numbered from n on
 abbrev pub laws_text : ℕ → List Equation → List ℕ

@@ -2,8 +2,8 @@
 use Rattle.std.specs.Prelude.{◌≡◌, ◌≢◌, ℕ, ◌+◌, ◌≤◌, List, [], ◌∷◌, ◌++◌, length, Bool, false, ◌||◌}
 use Rattle.etp_io.specs.Texts.{LineText, lines_of}
 use Rattle.etp_io.specs.Stream.{IsPrefix}
-use Rattle.etp_reply.specs.Texts.{Reply, reply_text, is_refusal}
-use Rattle.etp_reply.specs.States.{State, unopened, stopped}
+use Rattle.etp_print.specs.Texts.{Reply, reply_text, is_refusal}
+use Rattle.etp_desk.specs.States.{State, unopened, stopped}
 use Rattle.etp_reply.specs.Shelves.{KnownShelf}
 use Rattle.etp_reply.specs.Replies.{Replies, Reaches, Closes, answered_line}
 

@@ -7,7 +7,7 @@ ghost use Rattle.etp_session.specs.Listings.{ListsLaws, MovesFront};
 use etp_command::ListOrder;
 use etp_io::{Failed, Sink, write_all};
 use etp_laws::Laws;
-use etp_reply::append_law_line;
+use etp_show::append_law_line;
 use etp_text::Text;
 use std::alloc::Global;
 

@@ -1,16 +1,20 @@
-ghost use Rattle.std.specs.Prelude.{◌≡◌, ◌↔◌, IsTrue, ◌++◌, [], ◌+◌, ◌-◌, ◌≤◌, ℕ, length, IfSome, ◌⊎◌, ◌||◌, true, false};
+// Sessions, line by line.
+ghost use Rattle.std.specs.Prelude.{◌≡◌, ◌↔◌, IsTrue, ◌++◌, [], ◌+◌, ◌-◌, ◌≤◌, ℕ, length, IfOk, IfErr, IfSome, OnOk, IsErrOf, ◌⊎◌, ◌||◌, true, false};
 ghost use Rattle.etp_io.specs.Causes.{Rose};
 ghost use Rattle.etp_items.specs.Reading.{given_text};
-ghost use Rattle.etp_reply.specs.States.{State};
-ghost use Rattle.etp_reply.specs.Desks.{IsDesk, IsSound};
+ghost use Rattle.etp_desk.specs.States.{State};
+ghost use Rattle.etp_reply.specs.Shelves.{known};
+ghost use Rattle.etp_reply.specs.Replies.{Reaches};
+ghost use Rattle.etp_reply.specs.Given.{GivesReply};
+ghost use Rattle.etp_reply.specs.Desks.{IsDesk, IsSound, HasRightLaws};
+ghost use Rattle.etp_session.specs.Loads.{LoadsLong};
 ghost use Rattle.etp_session.specs.Endings.{line_text, WritesNothing, WritesClose, WritesSomeOfClose, IsDone, IsCut, IsEnd, status_of};
 ghost use Rattle.etp_session.specs.Sessions.{ReachesShelf};
 ghost use Rattle.etp_session.specs.Ends.{EndsWell, WritesPrefix, WritesWholeLines, Takes, TakesWithin, StopsAtFault, StopsAtName, StopsAtLong};
-ghost use Rattle.etp_reply.specs.Shelves.{known};
 
-use crate::loading::answer_line;
+use crate::loading::load;
 use etp_io::{InFault, Lines, Next, Shelf, Sink, Source, write_all};
-use etp_reply::{Desk, respond_at_end};
+use etp_reply::{Desk, Outcome, respond, respond_at_end};
 use etp_text::Text;
 use std::alloc::Global;
 
@@ -91,6 +95,41 @@ fn either(a: bool, b: bool) -> bool
     ensures { result ≡ (a || b) }
 {
     a || b
+}
+
+// Writes the reply to a line, which is None where it is too long, and answers whether it is a
+// refusal. A file that the line loads is read from the shelf.
+fn answer_line<H: Shelf>(
+    alloc: Global,
+    limit: u64,
+    text: &mut Text,
+    desk: &mut Desk,
+    line: Option<&[u8]>,
+    number: u64,
+    shelf: &mut H,
+) -> Result<bool, Ending>
+    requires limit { limit ≤ 134217728 }
+    requires empty { text.old ≡ [] }
+    requires sound { IsSound desk.old }
+    requires short { IfSome line (λ line. length line.now ≤ 4096) }
+    ensures ok { IfOk result (λ refused. (state : State) → IsDesk desk.old state
+        → GivesReply (known limit (H.keeps shelf.old)) state number (given_text line.entry) text.new refused (IsDesk desk.new)) }
+    ensures laws { OnOk result (HasRightLaws desk.new) }
+    ensures read { IsErrOf result Ending.ReadFault → Rose (H.faults shelf.old) (H.faults shelf.new)
+        × ((state : State) → IsDesk desk.old state → Reaches state (given_text line.entry) (H.failed_name shelf.new)) }
+    ensures too_much { IsErrOf result Ending.TooMuch → (state : State) → IsDesk desk.old state
+        → LoadsLong (known limit (H.keeps shelf.old)) state (given_text line.entry) (H.given shelf.old) (H.given shelf.new) }
+    ensures errors { IfErr result (λ e. (e ≡ Ending.NoMemory) ⊎ ((e ≡ Ending.ReadFault) ⊎ (e ≡ Ending.TooMuch))) }
+    ensures keeps { H.keeps shelf.new ≡ H.keeps shelf.old }
+    ensures untouched { (state : State) → IsDesk desk.old state
+        → (shelf.new ≡ shelf.old) ⊎ ((name : List ℕ) × Reaches state (given_text line.entry) name) }
+    ensures later { (H.faults shelf.old ≤ H.faults shelf.new) × (H.given shelf.old ≤ H.given shelf.new) }
+{
+    match respond(alloc, text, desk, line, number) {
+        Ok(Outcome::Replied(refused)) => Ok(refused),
+        Ok(Outcome::Loads(name, filing)) => load(alloc, limit, text, desk, name, filing, shelf),
+        Err(_) => Err(Ending::NoMemory),
+    }
 }
 
 // Serves a session to its end.

@@ -1,5 +1,5 @@
 use Rattle.std.proofs.Common.{sym, ◌∙◌}
-use Rattle.etp_reply.proofs.FileAnswers.{IfOk-then}
+use Rattle.etp_print.proofs.GivenLemmas.{IfOk-then}
 use Rattle.etp_reply.proofs.StateAnswers.{closes-open}
 use Rattle.etp_reply.proofs.reply.respond_at_end.Goals as goal
 

@@ -1,7 +1,7 @@
 use Rattle.std.proofs.Common.{arith, ap, refl, ◌≡◌, ◌∙◌}
 use Rattle.etp_io.specs.Reader.{Reader}
 use Rattle.etp_io.specs.declared.lines.Next.TheVariants.{End}
-use Rattle.etp_reply.proofs.FileAnswers.{untrue}
+use Rattle.etp_print.proofs.GivenLemmas.{untrue}
 use Rattle.etp_session.proofs.ShelfReading.{starts-loading, loading-then, loading-all}
 use Rattle.etp_session.proofs.loading.read_body.Goals as goal
 

@@ -1,5 +1,5 @@
 use Rattle.std.proofs.Common.{arith, ◌≡◌, ◌+◌, ap, inl, inr, ◌∙◌}
-use Rattle.etp_reply.proofs.FileAnswers.{untrue}
+use Rattle.etp_print.proofs.GivenLemmas.{untrue}
 use Rattle.std.specs.Prelude.{Err}
 use Rattle.etp_io.specs.declared.lines.Next.TheVariants.{End}
 use Rattle.etp_session.proofs.Running.{running-then, ends-well, ends-in_reply, ends-before_close, ends-between, ends-in_close, takes-within, takes-now, stops, stops-at_fault, stops-at_name, goes-on, done-close, cut-close, not_done, cut_before, no_write, no_read, no_limit, untouched-yet, untouched-after}
@@ -64,7 +64,7 @@ returns-then-is_end-clause-within g c n =
     (rw c.in-Ok-next.ensures.ok at c.next.ensures.says) c.next.ensures.limit c.next.ensures.taken c.next.ensures.loses c.next.ensures.given
 
 pub close-requires : goal.close-requires
-close-requires g c = record { state = c.served.invariant.0.state; stands = c.served.invariant.0.stands; agrees = c.served.invariant.1 }
+close-requires g c = record { state = c.served.invariant.0.state; stands = c.served.invariant.0.stands; laws = c.served.invariant.1 }
 
 pub returns-in-Err-clause-done : goal.returns-in-Err-clause-done
 returns-in-Err-clause-done g c = not_done c.in-Err.ending _ c.in-Err.ensures.errors
@@ -128,7 +128,7 @@ served-preserved g c =
           (omega (arith, c.number.ensures.counted)) c.next.ensures.taken c.next.ensures.loses c.next.ensures.given
           (λ state now. rw (c.line_read-line.ensures.text, c.number.ensures.number, c.served.invariant.6) at (c.in-Ok-answer_line.ensures.ok state now))
           (rw c.as_slice.ensures at c.in-Ok-write_all.ensures.ok)),
-      c.in-Ok-answer_line.ensures.agrees,
+      c.in-Ok-answer_line.ensures.laws,
       omega (arith, c.served.invariant.2, c.next.ensures.later),
       omega (arith, c.served.invariant.3, c.write_all.ensures.cause.later),
       omega (arith, c.served.invariant.4, c.answer_line.ensures.later.0),

@@ -1,13 +1,12 @@
 use Rattle.std.proofs.Common.{◌≡◌, ◌+◌, ◌-◌, ◌≤◌}
-use Rattle.std.specs.Option.{IfSome}
-use Rattle.etp_reply.specs.Desks.{Agrees, IsDesk}
+use Rattle.etp_reply.specs.Desks.{HasRightLaws, IsDesk}
 use Rattle.etp_session.proofs.Running.{Running, Untouched}
 use Rattle.etp_session.proofs.serving.serve.Given as goal
 
 abbrev pub invariant-served : goal.invariant-served
 invariant-served g l = Running (record { limit = l.limit; keeps = g.H.Shelf.keeps l.fn.shelf }) (g.S.Source.left l.fn.source) (g.S.Source.left l.source) (g.S.Source.last l.source) (g.K.Sink.took l.fn.sink) (g.K.Sink.took l.sink)
     (g.S.Source.given l.fn.source) (g.S.Source.given l.source) l.lines l.refused (IsDesk l.desk)
-    × IfSome l.desk.opened Agrees × (g.S.Source.faults l.fn.source ≤ g.S.Source.faults l.source) × (g.K.Sink.faults l.fn.sink ≤ g.K.Sink.faults l.sink)
+    × HasRightLaws l.desk × (g.S.Source.faults l.fn.source ≤ g.S.Source.faults l.source) × (g.K.Sink.faults l.fn.sink ≤ g.K.Sink.faults l.sink)
     × (g.H.Shelf.faults l.fn.shelf ≤ g.H.Shelf.faults l.shelf) × (g.H.Shelf.given l.fn.shelf ≤ g.H.Shelf.given l.shelf) × (g.H.Shelf.keeps l.shelf ≡ g.H.Shelf.keeps l.fn.shelf)
     × Untouched (record { limit = l.limit; keeps = g.H.Shelf.keeps l.fn.shelf }) (g.S.Source.left l.fn.source) l.fn.shelf l.shelf
 

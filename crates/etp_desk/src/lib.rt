@@ -1,0 +1,9 @@
+//! What stands in a session: its laws with the ledger over them.
+#![tactic(auto)]
+
+mod opened;
+
+pub use opened::Opened;
+
+#[cfg(test)]
+mod tests;

@@ -1,0 +1,3 @@
+pub mod FilingLemmas
+pub mod FileAnswers
+pub mod OneFile

@@ -1,0 +1,3 @@
+pub mod FileReplies
+pub mod Filings
+pub mod Withdrawals

@@ -1,0 +1,177 @@
+// The lines of a file's body.
+ghost use Rattle.std.specs.Prelude.{◌≡◌, ◌≤◌, ◌∷◌, [], ℕ, List, Some, Bool, true, false, length, IfOk, IfSome, MatchBool};
+ghost use Rattle.std.specs.Option.{option_copied};
+ghost use Rattle.std.specs.List.{list_any};
+ghost use Rattle.etp_items.specs.Words.{is_word};
+ghost use Rattle.etp_items.specs.Reading.{given_text};
+ghost use Rattle.etp_desk.specs.States.{Filing as FilingOf};
+ghost use Rattle.etp_desk.specs.Desks.{Agrees};
+ghost use Rattle.etp_filing.specs.FileReplies.{closes_body, unbuilt_kinds, HasFreeName};
+ghost use Rattle.etp_filing.specs.Filings.{begins_as, with_line, loading, IsPending, IsFiling};
+
+use etp_command::only_word;
+use etp_desk::Opened;
+use etp_items::{BodyReader, is, is_comment, next_word};
+use etp_ledger::Name;
+use std::alloc::{AllocError, Global};
+
+// What becomes of a file whose body is being read: it is refused, whatever its lines say, or read.
+#[derive(Drop)]
+pub(crate) enum Pending {
+    // Its line has no name.
+    BadLine,
+    // Its name stands.
+    NameTaken(Name),
+    // It is of a kind that isn't built.
+    NotBuilt(Name),
+    // No line that says something was read.
+    Blank(Name, BodyReader),
+    // Its first lines were read.
+    Begun(Name, BodyReader),
+}
+
+/// A file whose body is being read, under the number of its line.
+#[derive(Drop)]
+pub struct Filing {
+    pub(crate) number: u64,
+    pub(crate) pending: Pending,
+}
+
+/// What the first line of a body that isn't blank begins with.
+#[derive(Clone, Copy, PartialEq, Eq)]
+pub(crate) enum Begins {
+    /// The line is blank.
+    Blank,
+    /// The word of a kind that isn't built.
+    NotBuilt,
+    /// Anything else, and a line too long to be looked at.
+    Other,
+}
+
+fn beginning(line: Option<&[u8]>) -> Begins
+    ensures { result ≡ begins_as (given_text line.entry) }
+{
+    let Some(line) = line else {
+        return Begins::Other;
+    };
+    let Some((word, _)) = next_word(line) else {
+        return Begins::Blank;
+    };
+    if is_comment(word) {
+        return Begins::Blank;
+    }
+    if is_unbuilt_kind(word) {
+        return Begins::NotBuilt;
+    }
+    Begins::Other
+}
+
+fn is_unbuilt_kind(word: &[u8]) -> bool
+    ensures { result ≡ list_any (is_word word.now) unbuilt_kinds }
+{
+    is(word, "table") || is(word, "linear") || is(word, "rules")
+}
+
+/// Whether the line closes a body.
+pub fn closes_body(line: Option<&[u8]>) -> bool
+    ensures { result ≡ closes_body (given_text line.entry) }
+{
+    let Some(line) = line else {
+        return false;
+    };
+    match only_word(line) {
+        None => false,
+        Some(word) => is(word, "end"),
+    }
+}
+
+/// Opens the body of a file, whose name is to be the word.
+pub fn open_file(
+    alloc: Global,
+    opened: &Opened,
+    word: Option<&[u8]>,
+    number: u64,
+) -> Result<Filing, AllocError>
+    requires { Agrees opened.now }
+    ensures { IfOk result (λ filing. IsFiling opened.now filing (record { number = number; word = option_copied word.entry; lines = [] })) }
+{
+    let pending = pend(alloc, opened, word)?;
+    Ok(Filing { number, pending })
+}
+
+fn pend(alloc: Global, opened: &Opened, word: Option<&[u8]>) -> Result<Pending, AllocError>
+    requires { Agrees opened.now }
+    ensures { IfOk result (λ pending. (number : ℕ) → IsPending opened.now pending (record { number = number; word = option_copied word.entry; lines = [] })) }
+{
+    let Some(word) = word else {
+        return Ok(Pending::BadLine);
+    };
+    let Some(name) = Name::of(alloc, word)? else {
+        return Ok(Pending::BadLine);
+    };
+    if opened.ledger.place(name.as_slice()).is_some() {
+        return Ok(Pending::NameTaken(name));
+    }
+    let reader = BodyReader::start(alloc, opened.laws.count())?;
+    Ok(Pending::Blank(name, reader))
+}
+
+/// Whether the name of a file that was opened just now is a name and free, so that its body is read.
+pub fn has_free_name(filing: &Filing) -> bool
+    ensures { (o : Opened) (n : ℕ) (word : List ℕ) → IsFiling o filing.now (loading n word [])
+        → MatchBool result (HasFreeName o.ledger.files (Some word) word) (HasFreeName o.ledger.files (Some word) word → ⊥) }
+{
+    match filing.pending {
+        Pending::BadLine | Pending::NameTaken(_) => false,
+        _ => true,
+    }
+}
+
+/// The file with one body line more.
+pub fn take_line(filing: Filing, line: Option<&[u8]>) -> Result<Filing, AllocError>
+    requires { IfSome line (λ bytes. length bytes.now ≤ 4096) }
+    ensures { IfOk result (λ next. (o : Opened) (g : FilingOf) → IsFiling o filing g → IsFiling o next (with_line g (given_text line.entry))) }
+{
+    let Filing { number, pending } = filing;
+    let pending = with_line(pending, line)?;
+    Ok(Filing { number, pending })
+}
+
+// What becomes of a file with one body line more.
+fn with_line(pending: Pending, line: Option<&[u8]>) -> Result<Pending, AllocError>
+    requires { IfSome line (λ bytes. length bytes.now ≤ 4096) }
+    ensures { IfOk result (λ next. (o : Opened) (g : FilingOf) → IsPending o pending g → IsPending o next (with_line g (given_text line.entry))) }
+{
+    match pending {
+        Pending::BadLine => Ok(Pending::BadLine),
+        Pending::NameTaken(name) => Ok(Pending::NameTaken(name)),
+        Pending::NotBuilt(name) => Ok(Pending::NotBuilt(name)),
+        Pending::Blank(name, reader) => take_first_line(name, reader, line),
+        Pending::Begun(name, mut reader) => {
+            reader.push(line)?;
+            Ok(Pending::Begun(name, reader))
+        }
+    }
+}
+
+// Takes a line before which all are blank.
+fn take_first_line(
+    name: Name,
+    mut reader: BodyReader,
+    line: Option<&[u8]>,
+) -> Result<Pending, AllocError>
+    requires { IfSome line (λ bytes. length bytes.now ≤ 4096) }
+    ensures { IfOk result (λ next. (o : Opened) (g : FilingOf) → IsPending o (Pending.Blank name reader) g → IsPending o next (with_line g (given_text line.entry))) }
+{
+    match beginning(line) {
+        Begins::NotBuilt => Ok(Pending::NotBuilt(name)),
+        Begins::Blank => {
+            reader.push(line)?;
+            Ok(Pending::Blank(name, reader))
+        }
+        Begins::Other => {
+            reader.push(line)?;
+            Ok(Pending::Begun(name, reader))
+        }
+    }
+}

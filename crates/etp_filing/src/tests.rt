@@ -1,0 +1,24 @@
+use crate::{answer_file, answer_withdrawal, closes_body, has_free_name, open_file, take_line};
+use etp_command::ListOrder;
+use etp_desk::Opened;
+use etp_text::Text;
+
+#[test]
+fn a_file_is_read_accepted_and_taken_out(rt: HostRuntime) {
+    let alloc = rt.alloc();
+    let mut opened = Opened::start(alloc, ListOrder::Four).expect(&rt, "memory");
+    let filing = open_file(alloc, &opened, Some(b"p"), 7).expect(&rt, "memory");
+    assert!(rt; has_free_name(&filing));
+    let filing = take_line(filing, Some(b"proof 4 3")).expect(&rt, "memory");
+    let filing = take_line(filing, Some(b"lemma x")).expect(&rt, "memory");
+    let filing = take_line(filing, Some(b"step 0 > . x * x")).expect(&rt, "memory");
+    assert!(rt; closes_body(Some(b" end ")));
+    let mut text = Text::empty(alloc);
+    let refused = answer_file(alloc, &mut text, &mut opened, filing, true).expect(&rt, "memory");
+    assert!(rt; !refused);
+    assert!(rt; text.as_slice() == b"accepted p: implies 4 3\n");
+    text.clear();
+    let refused = answer_withdrawal(alloc, &mut text, &mut opened, b"p", 12).expect(&rt, "memory");
+    assert!(rt; !refused);
+    assert!(rt; text.as_slice() == b"withdrawn p\n");
+}

@@ -1,0 +1,3 @@
+pub mod Texts
+pub mod RefusalTexts
+pub mod Given

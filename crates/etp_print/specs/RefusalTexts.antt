@@ -1,0 +1,60 @@
+-- The texts of refusals.
+use Rattle.std.specs.Prelude.{ℕ, List, [], ◌++◌, codes, decimal}
+use Rattle.etp_laws.specs.declared.laws.Numbered.{Numbered}
+use Rattle.etp_laws.specs.declared.laws.Numbered.TheVariants.{Is, Trivial, TooManyOps}
+use Rattle.etp_text.specs.declared.refusal.TextRefusal.{TextRefusal}
+use Rattle.etp_text.specs.declared.refusal.TextRefusal.TheVariants as Text
+use Rattle.etp_items.specs.declared.refusal.BodyRefusal.{BodyRefusal}
+use Rattle.etp_items.specs.declared.refusal.BodyRefusal.TheVariants.{BadLine, TooManyLines, Unfinished, UnknownLaw}
+use Rattle.etp_check.specs.declared.refusal.CheckRefusal.{CheckRefusal}
+use Rattle.etp_check.specs.declared.refusal.CheckRefusal.TheVariants as Checked
+use Rattle.etp_ledger.specs.declared.refusal.LedgerRefusal.{LedgerRefusal}
+use Rattle.etp_ledger.specs.declared.refusal.LedgerRefusal.TheVariants as Files
+use Rattle.etp_replay.specs.declared.refusal.ReplayRefusal.{ReplayRefusal}
+use Rattle.etp_replay.specs.declared.refusal.ReplayRefusal.TheVariants.{Reference, NoPlace, OutsideChanged, NoMatch, GoalDiffers, Citation, NoMemory}
+
+-- why the text of a law is refused
+abbrev pub text_refusal : TextRefusal → List ℕ
+text_refusal (Text.Syntax at) = codes "syntax at " ++ decimal at
+text_refusal (Text.Variable at) = codes "variable at " ++ decimal at
+text_refusal (Text.TooLarge count) = codes "too large " ++ decimal count
+text_refusal Text.NoMemory = []
+
+-- why the lines of a body are refused
+abbrev pub body_refusal : BodyRefusal → List ℕ
+body_refusal (BadLine line) = codes "bad line " ++ decimal line
+body_refusal (TooManyLines line) = codes "too many lines"
+body_refusal (Unfinished line) = codes "unfinished at " ++ decimal line
+body_refusal (UnknownLaw line number) = codes "unknown law " ++ decimal number ++ codes " in line " ++ decimal line
+
+-- what was found in the place of the goal
+abbrev pub found_text : Numbered → List ℕ
+found_text (Is n) = decimal n
+found_text Trivial = codes "trivial"
+found_text (TooManyOps n) = codes "operations " ++ decimal n
+
+-- the place of a step
+abbrev pub step_place : ℕ → ℕ → List ℕ
+step_place lemma step = codes " lemma " ++ decimal lemma ++ codes " step " ++ decimal step
+
+-- why a proof is refused
+abbrev pub replay_refusal : ReplayRefusal → List ℕ
+replay_refusal (Reference lemma step line) = codes "reference" ++ step_place lemma step ++ codes " line " ++ decimal line
+replay_refusal (NoPlace lemma step) = codes "no place" ++ step_place lemma step
+replay_refusal (OutsideChanged lemma step) = codes "outside changed" ++ step_place lemma step
+replay_refusal (NoMatch lemma step) = codes "no match" ++ step_place lemma step
+replay_refusal (GoalDiffers found) = codes "goal differs found " ++ found_text found
+replay_refusal (Citation lemma step cite) = codes "citation" ++ step_place lemma step ++ codes " cite " ++ decimal cite
+replay_refusal NoMemory = []
+
+-- why a body isn't valid
+abbrev pub check_refusal : CheckRefusal → List ℕ
+check_refusal (Checked.Replay r) = replay_refusal r
+check_refusal Checked.NoMemory = []
+
+-- why the ledger refuses a file
+abbrev pub file_refusal : LedgerRefusal → List ℕ
+file_refusal (Files.Check r) = check_refusal r
+file_refusal (Files.CiteMissing cite) = codes "cite missing " ++ decimal cite
+file_refusal (Files.CiteOther cite) = codes "cite other " ++ decimal cite
+file_refusal _ = []

@@ -1,0 +1,11 @@
+//! The texts of refusals, and the lines that say them.
+#![tactic(auto)]
+
+mod line;
+mod refusal;
+
+pub use line::{begin_refusal, refuse, refuse_file, refuse_name, refuse_with};
+pub use refusal::{body_refusal_text, file_refusal_text, replay_text};
+
+#[cfg(test)]
+mod tests;

@@ -1,4 +1,0 @@
-use Rattle.etp_reply.proofs.refusal_text.append_body_refusal.Goals as goal
-
-pub returns-in-Unfinished : goal.returns-in-Unfinished
-returns-in-Unfinished c = rw c.in-Unfinished.is c.append_with-in-Unfinished.ensures

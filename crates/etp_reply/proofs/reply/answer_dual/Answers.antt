@@ -1,7 +1,0 @@
-use Rattle.std.proofs.Common.{refl}
-use Rattle.etp_reply.proofs.FileAnswers.{IfOk-then}
-use Rattle.etp_reply.proofs.ReplyLemmas.{gives-refused}
-use Rattle.etp_reply.proofs.reply.answer_dual.Goals as goal
-
-pub returns-in-None : goal.returns-in-None
-returns-in-None c = IfOk-then c.refuse_with.result _ _ (λ flag h. gives-refused c.args.line c.refuse_with.new.text _ flag _ (rw c.in-None.ensures.exact refl) h) c.refuse_with.ensures

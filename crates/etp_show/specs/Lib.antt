@@ -1,0 +1,2 @@
+pub mod LawReplies
+pub mod FileLists
