@@ -1,5 +1,5 @@
 // Sessions, line by line.
-ghost use Rattle.std.specs.Prelude.{◌≡◌, ◌↔◌, IsTrue, ◌++◌, [], ◌+◌, ◌-◌, ◌≤◌, ℕ, length, IfOk, IfErr, IfSome, OnOk, IsErrOf, ◌⊎◌, ◌||◌, true, false};
+ghost use Rattle.std.specs.Prelude.{◌≡◌, ◌↔◌, IsTrue, ◌++◌, [], ◌+◌, ◌-◌, ◌≤◌, ℕ, List, length, IfOk, IfErr, IfSome, OnOk, IsErrOf, ◌⊎◌, ◌||◌, true, false};
 ghost use Rattle.etp_io.specs.Causes.{Rose};
 ghost use Rattle.etp_items.specs.Reading.{given_text};
 ghost use Rattle.etp_desk.specs.States.{State};
