@@ -1,0 +1,13 @@
+//! Linear magmas, x ◇ y = a x + b y + c over the integers or modulo a number, and what holds in them.
+#![tactic(auto)]
+
+mod forms;
+mod linear;
+mod making;
+mod parts;
+mod refusal;
+mod ring;
+
+pub use linear::Linear;
+pub use parts::{Form, LinearFailure, Ring, Which};
+pub use refusal::LinearRefusal;
