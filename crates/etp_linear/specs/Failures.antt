@@ -9,7 +9,7 @@ use Rattle.etp_linear.specs.declared.parts.LinearFailure.{LinearFailure}
 -- all zero, or the variable 1 and all others 0
 abbrev pub point : Option ℕ → ℕ → ℤ
 point None v = pos 0
-point (Some u) v = cond (eqb u v) (pos 1) (pos 0)
+point (Some u) v = cond (eqb v u) (pos 1) (pos 0)
 
 abbrev pub IsBefore : Option ℕ → Option ℕ → Type 0
 IsBefore None None = ⊥

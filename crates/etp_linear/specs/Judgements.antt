@@ -5,6 +5,7 @@ use Rattle.etp_theory.specs.Magmas.{Holds}
 use Rattle.etp_theory.specs.Numbered.{law_numbered}
 use Rattle.etp_linear.specs.Magmas.{LinearMagma, inside, times, IsFirstOutOfRange}
 use Rattle.etp_linear.specs.Failures.{IsFirstFailure}
+use Rattle.etp_linear.specs.declared.parts.LinearFailure.{LinearFailure}
 use Rattle.etp_linear.specs.declared.refusal.LinearRefusal.{LinearRefusal}
 use Rattle.etp_linear.specs.declared.refusal.LinearRefusal.TheVariants.{Coefficient, HoldsFails, FailsHolds}
 
@@ -28,21 +29,32 @@ abbrev pub IsOutOfRange : LinearMagma → LinearRefusal → Type 0
 IsOutOfRange l (Coefficient which value) = IsFirstOutOfRange l which value
 IsOutOfRange l _ = ⊥
 
--- law n of `holds` fails first at this point
-abbrev pub IsHoldsRefused : LinearMagma → ℕ → Equation → LinearRefusal → Type 0
-IsHoldsRefused l n e (HoldsFails law failure) = (law ≡ n) × IsFirstFailure l e failure
-IsHoldsRefused l n e _ = ⊥
+-- law n fails first at this point
+pub record LawFailsBy (laws : List Equation) (l : LinearMagma) (n : ℕ) (failure : LinearFailure) : Type 0 where
+  pub law : Equation
+  pub listed : law_numbered laws n ≡ Some law
+  pub first : IsFirstFailure l law failure
 
--- law n of `fails` holds
-abbrev pub IsFailsRefused : LinearMagma → ℕ → Equation → LinearRefusal → Type 0
-IsFailsRefused l n e (FailsHolds law) = (law ≡ n) × Holds (inside l.ring) (times l) e.left e.right
-IsFailsRefused l n e _ = ⊥
+-- the first law that is to hold and fails
+pub record IsHoldsOffence (laws : List Equation) (l : LinearMagma) (holds : List ℕ) (r : LinearRefusal) : Type 0 where
+  pub place : ℕ
+  pub number : ℕ
+  pub failure : LinearFailure
+  pub is : r ≡ HoldsFails number failure
+  pub stands : slice_get holds place ≡ Some number
+  pub before : All (LawHolds laws l) (take place holds)
+  pub fails : LawFailsBy laws l number failure
+
+-- the first law that is to fail and holds
+pub record IsFailsOffence (laws : List Equation) (l : LinearMagma) (fails : List ℕ) (r : LinearRefusal) : Type 0 where
+  pub place : ℕ
+  pub number : ℕ
+  pub is : r ≡ FailsHolds number
+  pub stands : slice_get fails place ≡ Some number
+  pub before : All (LawFails laws l) (take place fails)
+  pub holds : LawHolds laws l number
 
 -- the first offence: of a law of `holds`, else of a law of `fails`
 pub data IsFirstOffence (laws : List Equation) (l : LinearMagma) (holds fails : List ℕ) (r : LinearRefusal) : Type 0 where
-  in_holds : (place n : ℕ) (e : Equation) → slice_get holds place ≡ Some n → law_numbered laws n ≡ Some e
-      → All (LawHolds laws l) (take place holds) → IsHoldsRefused l n e r
-      → IsFirstOffence laws l holds fails r
-  in_fails : (place n : ℕ) (e : Equation) → slice_get fails place ≡ Some n → law_numbered laws n ≡ Some e
-      → All (LawHolds laws l) holds → All (LawFails laws l) (take place fails) → IsFailsRefused l n e r
-      → IsFirstOffence laws l holds fails r
+  in_holds : IsHoldsOffence laws l holds r → IsFirstOffence laws l holds fails r
+  in_fails : All (LawHolds laws l) holds → IsFailsOffence laws l fails r → IsFirstOffence laws l holds fails r

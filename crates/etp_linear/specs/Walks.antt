@@ -1,5 +1,5 @@
 -- What a walk through a term adds to a form. No public clause cites it.
-use Rattle.std.specs.Prelude.{◌≡◌, ℕ, ◌+◌, ◌*◌, ◌^◌, ◌<◌, ◌≤◌, ℤ, ◌+ℤ◌, ◌*ℤ◌, IsTrue, FitsSigned, unsigned_abs}
+use Rattle.std.specs.Prelude.{◌≡◌, ◌≢◌, Option, None, Some, ℕ, ◌+◌, ◌*◌, ◌^◌, ◌<◌, ◌≤◌, ℤ, ◌+ℤ◌, ◌*ℤ◌, IsTrue, FitsSigned, unsigned_abs, length}
 use Rattle.std.specs.Int.{w128}
 use Rattle.etp_theory.specs.Trees.{Tree, ops, bound}
 use Rattle.etp_linear.specs.Magmas.{LinearMagma, inside, reduced}
@@ -33,6 +33,28 @@ pub record CanGain (l : LinearMagma) (t : Tree) (factor : ℤ) (form : Form) : T
 
 -- the form gains so much times that of the term
 pub record Gains (l : LinearMagma) (t : Tree) (factor : ℤ) (old new : Form) : Type 0 where
+  pub length_kept : length new.coefficients ≡ length old.coefficients
   pub constant : new.constant ≡ reduced l.ring (old.constant +ℤ factor *ℤ constant_of l t)
   pub coefficients : (v : ℕ) → v < 8
       → coefficient_at new v ≡ reduced l.ring (coefficient_at old v +ℤ factor *ℤ coefficient_of l t v)
+
+-- the value of a form at a point can be made
+abbrev pub CanTake : Ring → Form → Option ℕ → Type 0
+CanTake ring form None = Unit {0}
+CanTake ring form (Some v) = (v < 8) × CanAdd ring (coefficient_at form v) form.constant
+
+-- the value of a form where all variables are zero, or the variable is 1 and all others are zero
+abbrev pub taken : Ring → Form → Option ℕ → ℤ
+taken ring form None = form.constant
+taken ring form (Some v) = reduced ring (coefficient_at form v +ℤ form.constant)
+
+-- the constants, or the coefficients of a variable where constants and earlier coefficients are equal
+abbrev pub IsFirstDifference : Form → Form → Option ℕ → Type 0
+IsFirstDifference p q None = p.constant ≢ q.constant
+IsFirstDifference p q (Some v) =
+    (v < 8) × (p.constant ≡ q.constant) × (coefficient_at p v ≢ coefficient_at q v)
+    × ((u : ℕ) → u < v → coefficient_at p u ≡ coefficient_at q u)
+
+pub record AreOne (p q : Form) : Type 0 where
+  pub constants : p.constant ≡ q.constant
+  pub coefficients : (v : ℕ) → v < 8 → coefficient_at p v ≡ coefficient_at q v

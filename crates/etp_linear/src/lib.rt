@@ -1,7 +1,9 @@
 //! Linear magmas, x ◇ y = a x + b y + c over the integers or modulo a number, and what holds in them.
 #![tactic(auto)]
 
+mod failures;
 mod forms;
+mod judging;
 mod linear;
 mod making;
 mod parts;
