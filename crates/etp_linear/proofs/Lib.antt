@@ -5,3 +5,4 @@ pub mod Walks
 pub mod Starts
 pub mod Failing
 pub mod Judged
+pub mod Meaning

@@ -9,6 +9,7 @@ use borrow.Author.Differences.{up, down, same_in, same_out, sum_is_lem, product_
 use Rattle.etp_linear.specs.Magmas.{inside, reduced}
 use Rattle.etp_linear.specs.declared.parts.Ring.{Ring}
 use Rattle.etp_linear.specs.declared.parts.Ring.TheVariants.{Integers, Modulo}
+pub use Rattle.etp_linear.specs.Remainders.{some_modulus, left_inside, reduced_inside}
 use Rattle.etp_linear.proofs.Integers.{times_comm, times_sum, sum_times, times_assoc}
 
 down_multiple : (a q r m : ℕ) → q * m + r ≡ a → pos r ≡ pos a +ℤ neg_ℤ (pos q) *ℤ pos m
@@ -24,10 +25,6 @@ up_multiple a q r m e h =
 left_over : (m : ℕ) → 0 < m → (z : ℤ) → (q : ℤ) × (int_rem_euclid z (pos m) ≡ z +ℤ q *ℤ pos m)
 left_over m h (pos a) = (neg_ℤ (pos (a / m)), down_multiple a (a / m) (a % m) m (div-add-mod' a m))
 left_over m h (negsuc a) = (pos (suc (a / m)), up_multiple a (a / m) (a % m) m (div-add-mod' a m) (mod-lt a h))
-
-left_inside : (m : ℕ) → 0 < m → (z : ℤ) → IsTrue (inside (Modulo m) (int_rem_euclid z (pos m)))
-left_inside m h (pos a) = lt-ltb (a % m) m (mod-lt a h)
-left_inside m h (negsuc a) = lt-ltb (m - 1 - a % m) m (omega arith)
 
 apart_up : (m a b k : ℕ) → a < m → pos a ≡ pos b +ℤ pos (suc k) *ℤ pos m → ⊥
 apart_up m a b k h e = omega (arith, ap up e)
@@ -58,14 +55,6 @@ moved m h x y q e =
     let r = left_over m h y in
     one_left m _ _ (neg_ℤ r.0 +ℤ q +ℤ l.0) (left_inside m h x) (left_inside m h y)
         (l.1 ∙ omega (arith, ints, e, r.1, sum_times (neg_ℤ r.0 +ℤ q) l.0 (pos m), sum_times (neg_ℤ r.0) q (pos m), negated r.0 (pos m)))
-
-pub some_modulus : (m : ℕ) → Modulo m ≢ Modulo 0 → 0 < m
-some_modulus zero n = absurd (n refl)
-some_modulus (suc m) n = omega arith
-
-pub reduced_inside : (ring : Ring) → ring ≢ Modulo 0 → (z : ℤ) → IsTrue (inside ring (reduced ring z))
-reduced_inside Integers n z = refl
-reduced_inside (Modulo m) n z = left_inside m (some_modulus m n) z
 
 pub reduced_same : (ring : Ring) (z : ℤ) → IsTrue (inside ring z) → reduced ring z ≡ z
 reduced_same Integers z i = refl

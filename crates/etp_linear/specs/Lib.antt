@@ -4,3 +4,6 @@ pub mod Linears
 pub mod Failures
 pub mod Judgements
 pub mod Walks
+pub mod Theorems
+pub mod Remainders
+pub mod Sound

@@ -5,11 +5,14 @@ mod failures;
 mod forms;
 mod judging;
 mod linear;
+mod magma;
 mod making;
 mod parts;
 mod refusal;
 mod ring;
+mod theorems;
 
 pub use linear::Linear;
 pub use parts::{Form, LinearFailure, Ring, Which};
 pub use refusal::LinearRefusal;
+pub use theorems::linear_laws;
