@@ -1,16 +1,15 @@
 -- The first assignment at which a law fails, by the forms of its sides.
-use Rattle.std.proofs.Common.{◌≡◌, ◌≢◌, ℕ, zero, suc, ◌+◌, ◌*◌, ◌-◌, ◌^◌, ◌<◌, ◌≤◌, ◌⊎◌, inl, inr, refl, sym, ap, ap₂, ◌∙◌, subst, arith, true, false, Bool, cond, eqb, Option, None, Some, lit<}
-use Rattle.std.specs.Prelude.{ℤ, pos, negsuc, ◌+ℤ◌, ◌*ℤ◌, IsTrue, unsigned_abs, FitsSigned, ◌↔◌}
+use Rattle.std.proofs.Common.{◌≡◌, ◌≢◌, ℕ, zero, suc, ◌*◌, ◌-◌, ◌^◌, ◌<◌, ◌≤◌, ◌⊎◌, inl, inr, refl, sym, ap, ap₂, ◌∙◌, subst, arith, true, false, Bool, cond, eqb, Option, None, Some, lit<}
+use Rattle.std.specs.Prelude.{ℤ, pos, negsuc, ◌+ℤ◌, IsTrue}
 use Rattle.std.specs.Int.{w128}
 use Rattle.std.proofs.lemmas.Bool.{ltb-true}
 use Rattle.std.proofs.lemmas.Int.{fits_signed_from_abs}
-use borrow.Author.Differences.{ints}
 use Rattle.etp_theory.specs.Trees.{Tree, Equation, ops, bound}
 use Rattle.etp_theory.specs.Magmas.{meaning, Holds}
 use Rattle.etp_forms.specs.Forms.{only}
 use Rattle.etp_forms.proofs.Values as Forms
 use Rattle.etp_linear.specs.Magmas.{LinearMagma, inside, reduced, times, IsLinearMagma}
-use Rattle.etp_linear.specs.Values.{affine, one, coefficient_at, coefficient_of, constant_of, HasNumbers}
+use Rattle.etp_linear.specs.Values.{affine, one, coefficient_of, constant_of, HasNumbers}
 use Rattle.etp_linear.specs.Failures.{point, IsBefore, IsFirstFailure}
 use Rattle.etp_linear.specs.Walks.{CanAdd, CanTake, taken, IsFirstDifference, AreOne}
 use Rattle.etp_linear.specs.declared.parts.Ring.{Ring}
@@ -19,7 +18,7 @@ use Rattle.etp_linear.specs.declared.parts.Form.{Form}
 use Rattle.etp_linear.specs.declared.parts.LinearFailure.{LinearFailure}
 use Rattle.etp_linear.proofs.Reductions.{reduced_inside, one_is}
 use Rattle.etp_linear.proofs.Scalars.{zero_inside, linear, generate, by_coefficients}
-use Rattle.etp_linear.proofs.Walks.{in_carrier, IsSmall, coefficient_small, constant_small, abs_sum, limit_fits}
+use Rattle.etp_linear.proofs.Walks.{in_carrier, IsSmall, coefficient_small, constant_small, abs_sum}
 use Rattle.etp_linear.proofs.Starts.{none_there, powers}
 
 -- where two numbers of the carrier differ, its one is 1
@@ -55,9 +54,11 @@ module _ (l : LinearMagma) (ok : IsLinearMagma l) where
   pub can_take : (t : Tree) (form : Form) (p : Option ℕ) → ops t ≤ 5 → HasNumbers l t form → ((v : ℕ) → p ≡ Some v → v < 8) → CanTake l.ring form p
   can_take t form None h numbers small = tt
   can_take t form (Some v) h numbers small =
-      let k = small v refl in
-      (k, subst (λ x. CanAdd l.ring x form.constant) (sym (numbers.coefficients v k)) (subst (CanAdd l.ring (coefficient_of l t v)) (sym numbers.constant)
-          (sums_fit l.ring (ops t) _ _ h (coefficient_small l.ring l.a l.b l.c ok.a_in_range ok.b_in_range t v) (constant_small l.ring l.a l.b l.c ok.a_in_range ok.b_in_range ok.c_in_range t) (coefficient_in t v) (constant_in t))))
+      let k = small v refl in (
+        k,
+        subst (λ x. CanAdd l.ring x form.constant) (sym (numbers.coefficients v k)) (subst (CanAdd l.ring (coefficient_of l t v)) (sym numbers.constant)
+            (sums_fit l.ring (ops t) _ _ h (coefficient_small l.ring l.a l.b l.c ok.a_in_range ok.b_in_range t v) (constant_small l.ring l.a l.b l.c ok.a_in_range ok.b_in_range ok.c_in_range t) (coefficient_in t v) (constant_in t))),
+      )
 
   at_point : (t : Tree) (v : ℕ) → one l.ring ≡ pos 1 → meaning (times l) (point (Some v)) t ≡ reduced l.ring (coefficient_of l t v +ℤ constant_of l t)
   at_point t v e =
@@ -83,7 +84,7 @@ module _ (l : LinearMagma) (ok : IsLinearMagma l) where
     pub holds : AreOne left right → Holds (inside l.ring) (times l) e.left e.right
     holds h =
         Forms.one_form_holds (inside l.ring) (times l) (affine l) (linear l ok.modulus (in_carrier l.ring l.c ok.c_in_range)) _ (generate l ok.modulus) e.left e.right
-            ((by_coefficients l ok.modulus (in_carrier l.ring l.c ok.c_in_range) e.left e.right).1 (sym of_left.constant ∙ h.constants ∙ of_right.constant, λ v. each v (small_or v)))
+        ((by_coefficients l ok.modulus (in_carrier l.ring l.c ok.c_in_range) e.left e.right).1 (sym of_left.constant ∙ h.constants ∙ of_right.constant, λ v. each v (small_or v)))
       where
         small_or : (v : ℕ) → (v < 8) ⊎ (8 ≤ v)
         small_or v = grind arith
@@ -97,7 +98,7 @@ module _ (l : LinearMagma) (ok : IsLinearMagma l) where
     one_where None d v q = absurd (cc)
     one_where (Some u) d v q =
         one_there l.ring (coefficient_of l e.left u) (coefficient_of l e.right u) (coefficient_in e.left u) (coefficient_in e.right u)
-            (λ s. d.2 (of_left.coefficients u d.0 ∙ s ∙ sym (of_right.coefficients u d.0)))
+        (λ s. d.2 (of_left.coefficients u d.0 ∙ s ∙ sym (of_right.coefficients u d.0)))
 
     pub small_there : (p : Option ℕ) → IsFirstDifference left right p → (v : ℕ) → p ≡ Some v → v < 8
     small_there None d v q = absurd (cc)
@@ -110,8 +111,8 @@ module _ (l : LinearMagma) (ok : IsLinearMagma l) where
     apart None d s = d s
     apart (Some v) d s =
         d.2 (of_left.coefficients v d.0 ∙ (linear l ok.modulus (in_carrier l.ring l.c ok.c_in_range)).cancelled _ _ _ (coefficient_in e.left v) (coefficient_in e.right v) (constant_in e.left)
-            (sym (ap₂ (λ x y. reduced l.ring (x +ℤ y)) (of_left.coefficients v d.0) of_left.constant) ∙ s ∙ ap₂ (λ x y. reduced l.ring (x +ℤ y)) (of_right.coefficients v d.0) (sym d.1 ∙ of_left.constant))
-            ∙ sym (of_right.coefficients v d.0))
+        (sym (ap₂ (λ x y. reduced l.ring (x +ℤ y)) (of_left.coefficients v d.0) of_left.constant) ∙ s ∙ ap₂ (λ x y. reduced l.ring (x +ℤ y)) (of_right.coefficients v d.0) (sym d.1 ∙ of_left.constant))
+        ∙ sym (of_right.coefficients v d.0))
 
     earlier : (p : Option ℕ) → IsFirstDifference left right p → (q : Option ℕ) → IsBefore q p → meaning (times l) (point q) e.left ≡ meaning (times l) (point q) e.right
     earlier None d None b = absurd b

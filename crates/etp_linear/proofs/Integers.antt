@@ -1,10 +1,7 @@
 -- Sums and products of integers.
-use Rattle.std.proofs.Common.{◌≡◌, ◌≢◌, ℕ, zero, suc, ◌+◌, ◌*◌, ◌-◌, ◌/◌, ◌%◌, ◌<◌, refl, sym, ap, ap₂, ◌∙◌, arith, true, false, nat_lt}
-use Rattle.std.specs.Prelude.{ℤ, pos, negsuc, ◌+ℤ◌, ◌-ℤ◌, ◌*ℤ◌, IsTrue}
-use Rattle.std.specs.Int.{int_rem_euclid}
+use Rattle.std.proofs.Common.{◌≡◌, ◌*◌, ap, ap₂, ◌∙◌, arith}
+use Rattle.std.specs.Prelude.{ℤ, ◌+ℤ◌, ◌*ℤ◌}
 use Rattle.std.proofs.lemmas.Int.{ints}
-use Rattle.std.proofs.Math.Nat.{mod-lt, div-add-mod', mod-eq_of_lt, mul-le-mul_right}
-use Rattle.std.proofs.Math.IntN.{neg_ℤ}
 use borrow.Author.Differences.{up, down, same_in, sum_is_lem, product_is}
 
 pub times_sum : (x y z : ℤ) → x *ℤ (y +ℤ z) ≡ x *ℤ y +ℤ x *ℤ z
@@ -23,4 +20,3 @@ times_assoc x y z =
 
 pub sum_times : (x y z : ℤ) → (x +ℤ y) *ℤ z ≡ x *ℤ z +ℤ y *ℤ z
 sum_times x y z = times_comm (x +ℤ y) z ∙ times_sum z x y ∙ ap₂ (λ a b. a +ℤ b) (times_comm z x) (times_comm z y)
-

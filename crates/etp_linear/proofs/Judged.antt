@@ -1,12 +1,12 @@
 -- Listed laws are small, and what is judged is right.
-use Rattle.std.proofs.Common.{◌≡◌, ℕ, ◌+◌, ◌≤◌, ◌⊎◌, inl, inr, max, refl, sym, ap, ◌∙◌, subst, arith, List, length, take, Contains, Some}
+use Rattle.std.proofs.Common.{◌≡◌, ℕ, ◌≤◌, ◌⊎◌, inl, inr, subst, arith, List, length, take, Some}
 use Rattle.std.specs.Prelude.{All}
 use Rattle.std.proofs.lemmas.List.{take_all}
 use Rattle.std.proofs.lemmas.List.Elements.{All-contains}
-use Rattle.etp_theory.specs.Trees.{Equation, ops, bound, law_ops}
+use Rattle.etp_theory.specs.Trees.{Equation, ops, bound}
 use Rattle.etp_theory.specs.Numbered.{law_numbered}
 use Rattle.etp_theory.specs.Reach.{refutes}
-use Rattle.etp_theory.specs.RightFacts.{Refutes, IsRightFact}
+use Rattle.etp_theory.specs.RightFacts.{IsRightFact}
 use Rattle.etp_theory.specs.Sound.{sound}
 use Rattle.etp_forms.proofs.Values as Forms
 use Rattle.etp_laws.specs.Listing.{IsTheList}

@@ -1,18 +1,12 @@
 -- Laws are judged in one way.
 use Rattle.std.proofs.Common.{◌≡◌, ℕ, ◌<◌, ◌≤◌, ◌⊎◌, inl, inr, ◌∙◌, sym, subst, List, Contains, Some, None, length, get_or, slice_get}
-use Rattle.std.specs.Prelude.{IsTrue}
 use Rattle.std.proofs.lemmas.List.Elements.{All-contains}
 use Rattle.std.proofs.lemmas.Option.{slice_get_cases}
 use Rattle.etp_theory.specs.Trees.{Equation}
-use Rattle.etp_theory.specs.Magmas.{IsClosed, Holds}
-use Rattle.etp_theory.specs.Numbered.{law_numbered}
-use Rattle.etp_forms.proofs.Values as Forms
-use Rattle.etp_linear.specs.Magmas.{LinearMagma, inside, times, IsLinearMagma}
-use Rattle.etp_linear.specs.Values.{affine}
-use Rattle.etp_linear.specs.Judgements.{LawHolds, LawFails, LawFailsBy, IsJudged, IsFirstOffence, in_holds, in_fails}
+use Rattle.etp_theory.specs.Magmas.{Holds}
+use Rattle.etp_linear.specs.Magmas.{LinearMagma, inside, times}
+use Rattle.etp_linear.specs.Judgements.{LawHolds, LawFails, IsJudged, IsFirstOffence, in_holds, in_fails}
 use Rattle.etp_linear.specs.declared.refusal.LinearRefusal.{LinearRefusal}
-use Rattle.etp_linear.proofs.Scalars.{linear}
-use Rattle.etp_linear.proofs.Walks.{in_carrier}
 use Rattle.etp_linear.proofs.Failing.{fails}
 use Rattle.etp_linear.proofs.Judged.{fails_by}
 

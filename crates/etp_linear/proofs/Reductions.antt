@@ -1,10 +1,10 @@
 -- Sums and products modulo a number.
-use Rattle.std.proofs.Common.{◌≡◌, ◌≢◌, ℕ, zero, suc, ◌+◌, ◌*◌, ◌-◌, ◌/◌, ◌%◌, ◌<◌, refl, sym, ap, ap₂, ◌∙◌, arith, true, false, mod-lt, div-add-mod', mod-eq_of_lt,  mul-le-mul_right, ◌≤◌}
-use Rattle.std.specs.Prelude.{ℤ, pos, negsuc, ◌+ℤ◌, ◌-ℤ◌, ◌*ℤ◌, IsTrue, nat_lt}
+use Rattle.std.proofs.Common.{◌≡◌, ◌≢◌, ℕ, zero, suc, ◌+◌, ◌*◌, ◌-◌, ◌/◌, ◌%◌, ◌<◌, refl, sym, ap, ap₂, ◌∙◌, arith, mod-lt, div-add-mod', mod-eq_of_lt, ◌≤◌}
+use Rattle.std.specs.Prelude.{ℤ, pos, negsuc, ◌+ℤ◌, ◌*ℤ◌, IsTrue}
 use Rattle.std.specs.Int.{int_rem_euclid}
-use Rattle.std.proofs.lemmas.Bool.{ltb-true, lt-ltb}
+use Rattle.std.proofs.lemmas.Bool.{ltb-true}
 use Rattle.std.proofs.Math.Nat.{add-mul-mod_self_right}
-use Rattle.std.proofs.Math.IntN.{neg_ℤ, +ℤ_assoc, +ℤ_comm}
+use Rattle.std.proofs.Math.IntN.{neg_ℤ}
 use borrow.Author.Differences.{up, down, same_in, same_out, sum_is_lem, product_is, neg_is, ints}
 use Rattle.etp_linear.specs.Magmas.{inside, reduced}
 use Rattle.etp_linear.specs.declared.parts.Ring.{Ring}
@@ -54,7 +54,7 @@ moved m h x y q e =
     let l = left_over m h x in
     let r = left_over m h y in
     one_left m _ _ (neg_ℤ r.0 +ℤ q +ℤ l.0) (left_inside m h x) (left_inside m h y)
-        (l.1 ∙ omega (arith, ints, e, r.1, sum_times (neg_ℤ r.0 +ℤ q) l.0 (pos m), sum_times (neg_ℤ r.0) q (pos m), negated r.0 (pos m)))
+    (l.1 ∙ omega (arith, ints, e, r.1, sum_times (neg_ℤ r.0 +ℤ q) l.0 (pos m), sum_times (neg_ℤ r.0) q (pos m), negated r.0 (pos m)))
 
 pub reduced_same : (ring : Ring) (z : ℤ) → IsTrue (inside ring z) → reduced ring z ≡ z
 reduced_same Integers z i = refl

@@ -1,17 +1,16 @@
 -- Linear magmas have linear forms, whose coefficients are numbers.
-use Rattle.std.proofs.Common.{◌≡◌, ◌≢◌, ℕ, zero, suc, ◌+◌, ◌<◌, refl, sym, ap, ap₂, ◌∙◌, subst, arith, true, false, Bool, cond, eqb, List, [], ◌∷◌, Contains, mod-lt}
-use Rattle.std.specs.Prelude.{ℤ, pos, negsuc, ◌+ℤ◌, ◌-ℤ◌, ◌*ℤ◌, IsTrue, ◌↔◌}
+use Rattle.std.proofs.Common.{◌≡◌, ◌≢◌, ℕ, zero, suc, refl, sym, ap, ◌∙◌, subst, arith, true, false, Bool, cond, eqb, List, [], ◌∷◌, Contains}
+use Rattle.std.specs.Prelude.{ℤ, pos, negsuc, ◌+ℤ◌, ◌*ℤ◌, IsTrue, ◌↔◌}
 use Rattle.std.proofs.lemmas.Bool.{lt-ltb}
-use Rattle.std.proofs.Math.IntN.{neg_ℤ, +ℤ_assoc, +ℤ_comm, +ℤ_idr, +ℤ_idl, +ℤ-neg_ℤ_cancel, zero-*ℤ}
+use Rattle.std.proofs.Math.IntN.{neg_ℤ, +ℤ_assoc, +ℤ_comm, +ℤ_idr, +ℤ-neg_ℤ_cancel, zero-*ℤ}
 use borrow.Author.Differences.{ints}
 use Rattle.etp_theory.specs.Trees.{Tree, var, op}
-use Rattle.etp_theory.specs.Magmas.{Holds}
-use Rattle.etp_forms.specs.Forms.{Affine, coefficient, constant, IsLinear, Spanned, is_origin, is_generator, is_sum, is_difference, Generate, HaveOneForm}
+use Rattle.etp_forms.specs.Forms.{coefficient, IsLinear, Spanned, is_origin, is_generator, is_sum, is_difference, Generate, HaveOneForm}
 use Rattle.etp_linear.specs.Magmas.{LinearMagma, inside, reduced, times}
 use Rattle.etp_linear.specs.Values.{affine, one, coefficient_of, constant_of}
 use Rattle.etp_linear.specs.declared.parts.Ring.{Ring}
 use Rattle.etp_linear.specs.declared.parts.Ring.TheVariants.{Integers, Modulo}
-use Rattle.etp_linear.proofs.Integers.{times_comm, times_sum, sum_times, times_assoc}
+use Rattle.etp_linear.proofs.Integers.{times_sum, sum_times, times_assoc}
 use Rattle.etp_linear.proofs.Reductions.{some_modulus, reduced_inside, reduced_same, Alike, equal_alike, turned, joined, alike_self, alike_sum, alike_product}
 
 pub zero_inside : (ring : Ring) → ring ≢ Modulo 0 → IsTrue (inside ring (pos 0))
@@ -56,7 +55,7 @@ module _ (l : LinearMagma) (n : l.ring ≢ Modulo 0) where
   naturals zero = subst In (sym (reduced_same l.ring (pos 0) (zero_inside l.ring n))) is_origin
   naturals (suc k) =
       subst In ((alike_sum n (self (pos k)) (self (pos 1))).same ∙ ap (λ x. reduced l.ring (pos x)) (omega arith))
-          (is_sum _ _ (naturals k) (is_generator (one l.ring) (0, omega arith, refl)))
+      (is_sum _ _ (naturals k) (is_generator (one l.ring) (0, omega arith, refl)))
 
   pub generate : Generate (inside l.ring) (affine l) ones
   generate = record {
@@ -73,14 +72,15 @@ module _ (l : LinearMagma) (n : l.ring ≢ Modulo 0) where
       spanned (Modulo m) e (negsuc k) i = absurd (subst (λ r. IsTrue (inside r (negsuc k)) → ⊥) (sym e) (λ j. cc) i)
       spanned Integers e (negsuc k) i =
           is_difference (negsuc k) (pos (suc k)) i
-              (subst In (sym (ap (reduced l.ring) (omega (arith, ints)) ∙ reduced_same l.ring (pos 0) (zero_inside l.ring n))) is_origin)
-              (subst In (ap (λ r. reduced r (pos (suc k))) e ∙ refl) (naturals (suc k)))
+          (subst In (sym (ap (reduced l.ring) (omega (arith, ints)) ∙ reduced_same l.ring (pos 0) (zero_inside l.ring n))) is_origin)
+          (subst In (ap (λ r. reduced r (pos (suc k))) e ∙ refl) (naturals (suc k)))
 
   pub by_coefficients : IsTrue (inside l.ring l.c) → (p q : Tree) → HaveOneForm (affine l) ones p q
       ↔ ((constant_of l p ≡ constant_of l q) × ((v : ℕ) → coefficient_of l p v ≡ coefficient_of l q v))
   by_coefficients c_inside p q = (
-      λ h. (h.constants, λ v. h.coefficients v (one l.ring) (0, omega arith, refl)),
-      λ h. record { constants = h.0; coefficients = λ v x c. there v x c (h.1 v) })
+    λ h. (h.constants, λ v. h.coefficients v (one l.ring) (0, omega arith, refl)),
+    λ h. record { constants = h.0; coefficients = λ v x c. there v x c (h.1 v) },
+  )
     where
       there : (v : ℕ) (x : ℤ) → Contains ones x → coefficient_of l p v ≡ coefficient_of l q v → coefficient (affine l) p v x ≡ coefficient (affine l) q v x
       there v x (zero, h, e) f = subst (λ y. coefficient (affine l) p v y ≡ coefficient (affine l) q v y) e f
@@ -99,9 +99,8 @@ module _ (l : LinearMagma) (n : l.ring ≢ Modulo 0) where
       let es : Alike l.ring (coefficient (affine l) s v z) (cs *ℤ z) = joined (equal_alike l.ring (by_number s v z i)) (self (cs *ℤ z)) in
       let et : Alike l.ring (coefficient (affine l) t v z) (ct *ℤ z) = joined (equal_alike l.ring (by_number t v z i)) (self (ct *ℤ z)) in
       let left : Alike l.ring (reduced l.ring (l.a *ℤ coefficient (affine l) s v z)) (l.a *ℤ cs *ℤ z) =
-          joined (self _) (joined (alike_product n (same l.a) es) (equal_alike l.ring (sym (times_assoc l.a cs z)))) in
+      joined (self _) (joined (alike_product n (same l.a) es) (equal_alike l.ring (sym (times_assoc l.a cs z)))) in
       let right : Alike l.ring (reduced l.ring (l.b *ℤ coefficient (affine l) t v z)) (l.b *ℤ ct *ℤ z) =
-          joined (self _) (joined (alike_product n (same l.b) et) (equal_alike l.ring (sym (times_assoc l.b ct z)))) in
+      joined (self _) (joined (alike_product n (same l.b) et) (equal_alike l.ring (sym (times_assoc l.b ct z)))) in
       let both : Alike l.ring (coefficient_of l (op s t) v) (l.a *ℤ cs +ℤ l.b *ℤ ct) = joined (self _) (alike_sum n (self _) (self _)) in
       (joined (joined (alike_sum n left right) (equal_alike l.ring (sym (sum_times (l.a *ℤ cs) (l.b *ℤ ct) z)))) (turned (alike_product n both (same z)))).same
-

@@ -1,22 +1,20 @@
 -- A form that starts at zero becomes the term's form, and its value is the term's value.
-use Rattle.std.proofs.Common.{◌≡◌, ◌≢◌, ℕ, zero, suc, ◌+◌, ◌-◌, ◌*◌, ◌^◌, ◌<◌, ◌≤◌, refl, sym, ap, ap₂, ◌∙◌, subst, arith, true, false, Bool, cond, eqb, ne_eqb, mul-le-mul_left, List, [], ◌∷◌, length, get_or, replicate}
-use Rattle.std.specs.Prelude.{ℤ, pos, negsuc, ◌+ℤ◌, ◌*ℤ◌, IsTrue, unsigned_abs, All}
+use Rattle.std.proofs.Common.{◌≡◌, ℕ, zero, suc, ◌+◌, ◌-◌, ◌*◌, ◌^◌, ◌<◌, ◌≤◌, refl, sym, ap, ap₂, ◌∙◌, subst, arith, cond, ne_eqb, mul-le-mul_left, List, [], ◌∷◌, length, get_or, replicate}
+use Rattle.std.specs.Prelude.{ℤ, pos, ◌+ℤ◌, ◌*ℤ◌, IsTrue}
 use Rattle.std.proofs.lemmas.Nat.{pow-add}
 use Rattle.std.proofs.lemmas.List.Elements.{All-from_get_or}
 use Rattle.std.proofs.lemmas.List.{get_or-replicate}
-use Rattle.std.proofs.Math.IntN.{+ℤ_assoc, +ℤ_comm, +ℤ_idr, +ℤ_idl}
+use Rattle.std.proofs.Math.IntN.{+ℤ_assoc, +ℤ_comm}
 use borrow.Author.Differences.{ints}
 use Rattle.etp_theory.specs.Trees.{Tree, var, op, ops, bound}
-use Rattle.etp_theory.specs.Magmas.{meaning}
 use Rattle.etp_forms.specs.Forms.{coefficient, sum_to}
 use Rattle.etp_forms.proofs.Values as Forms
 use Rattle.etp_linear.specs.Magmas.{LinearMagma, inside, reduced, times, IsLinearMagma}
-use Rattle.etp_linear.specs.Values.{affine, one, coefficient_at, coefficient_of, constant_of, products, IsFormOf, HasNumbers}
+use Rattle.etp_linear.specs.Values.{affine, one, coefficient_at, coefficient_of, products, IsFormOf, HasNumbers}
 use Rattle.etp_linear.specs.Walks.{HasRoom, CanGain, Gains}
 use Rattle.etp_linear.specs.declared.parts.Ring.{Ring}
 use Rattle.etp_linear.specs.declared.parts.Ring.TheVariants.{Integers, Modulo}
 use Rattle.etp_linear.specs.declared.parts.Form.{Form}
-use Rattle.etp_linear.proofs.Integers.{times_comm}
 use Rattle.etp_linear.proofs.Reductions.{reduced_inside, reduced_same, Alike, equal_alike, turned, joined, alike_self, alike_sum, alike_product}
 use Rattle.etp_linear.proofs.Scalars.{zero_inside, linear, by_number}
 use Rattle.etp_linear.proofs.Walks.{in_carrier, power}
@@ -91,7 +89,7 @@ module _ (l : LinearMagma) (ok : IsLinearMagma l) where
   by_list [] g r e = equal_alike l.ring refl
   by_list (k ∷ ks) g r e =
       joined (sum_first (length ks) g)
-          (alike_sum ok.modulus (e 0 (omega arith)) (by_list ks (λ v. g (v + 1)) (λ v. r (v + 1)) (λ v h. later v (e (v + 1) (omega arith)))))
+      (alike_sum ok.modulus (e 0 (omega arith)) (by_list ks (λ v. g (v + 1)) (λ v. r (v + 1)) (λ v h. later v (e (v + 1) (omega arith)))))
     where
       later : (v : ℕ) → Alike l.ring (g (v + 1)) (get_or (k ∷ ks) (v + 1) (pos 0) *ℤ r (v + 1)) → Alike l.ring (g (v + 1)) (get_or ks v (pos 0) *ℤ r (v + 1))
       later v p = let e : v + 1 ≡ suc v = omega arith in subst (λ x. Alike l.ring (g (v + 1)) (x *ℤ r (v + 1))) (ap (λ n. get_or (k ∷ ks) n (pos 0)) e) p
@@ -102,7 +100,7 @@ module _ (l : LinearMagma) (ok : IsLinearMagma l) where
         let n : bound t ≤ length form.coefficients = omega arith in
         let lin = linear l ok.modulus c_in in
         let sums : Alike l.ring (sum_to (affine l) (length form.coefficients) (λ v. coefficient (affine l) t v (r v))) (products form.coefficients r) =
-            by_list form.coefficients (λ v. coefficient (affine l) t v (r v)) r (λ v h. at r i v h) in
+        by_list form.coefficients (λ v. coefficient (affine l) t v (r v)) r (λ v h. at r i v h) in
         Forms.value (inside l.ring) (times l) (affine l) lin r i (length form.coefficients) t n
         ∙ (alike_sum ok.modulus sums (equal_alike l.ring (sym numbers.constant))).same;
     coefficients_inside = All-from_get_or In form.coefficients (pos 0) (λ v h. subst In (sym (numbers.coefficients v (omega arith))) (Forms.coefficient_inside (inside l.ring) (times l) (affine l) (linear l ok.modulus c_in) t v (one l.ring) (reduced_inside l.ring ok.modulus (pos 1))));

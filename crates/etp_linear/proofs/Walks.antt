@@ -1,22 +1,21 @@
 -- A walk through a term: what it may add, and what it has added.
-use Rattle.std.proofs.Common.{◌≡◌, ◌≢◌, ℕ, zero, suc, ◌+◌, ◌*◌, ◌^◌, ◌<◌, ◌≤◌, refl, sym, ap, ap₂, ◌∙◌, subst, arith, true, false, Bool, cond, eqb, eq-eqb, ne_eqb, mul-le-mul, mul-le-mul_left, mul-le-mul_right, pow-suc, lit<}
-use Rattle.std.specs.Prelude.{ℤ, pos, negsuc, ◌+ℤ◌, ◌-ℤ◌, ◌*ℤ◌, IsTrue, unsigned_abs, FitsSigned, length}
+use Rattle.std.proofs.Common.{◌≡◌, ◌≢◌, ℕ, zero, suc, ◌+◌, ◌*◌, ◌^◌, ◌<◌, ◌≤◌, refl, sym, ap, ap₂, ◌∙◌, subst, arith, true, false, Bool, cond, eqb, eq-eqb, mul-le-mul, mul-le-mul_left, mul-le-mul_right, pow-suc, lit<}
+use Rattle.std.specs.Prelude.{ℤ, pos, negsuc, ◌+ℤ◌, ◌*ℤ◌, IsTrue, unsigned_abs, length}
 use Rattle.std.specs.Int.{w128}
 use Rattle.std.proofs.lemmas.Bool.{lt-ltb, eqb-true}
 use Rattle.std.proofs.lemmas.Nat.{pow-add}
 use Rattle.std.proofs.lemmas.Int.{unsigned_abs-mul, fits_signed_from_abs}
 use Rattle.std.proofs.Math.IntN.{+ℤ_assoc, +ℤ_comm, +ℤ_idr, *ℤ-zero}
 use borrow.Author.Differences.{ints}
-use Rattle.etp_theory.specs.Trees.{Tree, var, op, ops, bound}
+use Rattle.etp_theory.specs.Trees.{Tree, var, op, ops}
 use Rattle.etp_linear.specs.Magmas.{LinearMagma, inside, reduced, IsCoefficient, IsLinearMagma}
 use Rattle.etp_linear.specs.Values.{one, coefficient_at, coefficient_of, constant_of}
 use Rattle.etp_linear.specs.Walks.{CanAdd, CanMultiply, HasRoom, CanGain, Gains}
 use Rattle.etp_linear.specs.declared.parts.Ring.{Ring}
 use Rattle.etp_linear.specs.declared.parts.Ring.TheVariants.{Integers, Modulo}
 use Rattle.etp_linear.specs.declared.parts.Form.{Form}
-use Rattle.etp_linear.proofs.Integers.{times_comm, times_sum, sum_times, times_assoc}
+use Rattle.etp_linear.proofs.Integers.{times_sum, times_assoc}
 use Rattle.etp_linear.proofs.Reductions.{reduced_inside, reduced_same, Alike, equal_alike, turned, joined, alike_self, alike_sum, alike_product}
-use Rattle.etp_linear.proofs.Scalars.{zero_inside}
 
 -- ---- sizes over the integers
 
@@ -85,8 +84,8 @@ right_room : (ring : Ring) (s t : ℕ) (f j k z y x : ℤ) → IsCoefficient rin
 right_room Integers s t f j k z y x hj hk h g i =
     let r = spread (unsigned_abs f) s t (unsigned_abs z) h in
     right_sum (unsigned_abs f) (3000000 ^ s) (3000000 ^ t) r.whole (unsigned_abs z) (unsigned_abs y) (unsigned_abs x) (unsigned_abs (f *ℤ j)) (unsigned_abs (f *ℤ k)) _ (3000000 ^ 5)
-        r.alone r.with_left r.with_right r.room (product_size f j hj) (product_size f k hk) g i
-        (omega (arith, abs_sum y ((f *ℤ j) *ℤ x), unsigned_abs-mul (f *ℤ j) x))
+    r.alone r.with_left r.with_right r.room (product_size f j hj) (product_size f k hk) g i
+    (omega (arith, abs_sum y ((f *ℤ j) *ℤ x), unsigned_abs-mul (f *ℤ j) x))
 right_room (Modulo m) s t f j k z y x hj hk h g i = tt
 
 unchanged : (ring : Ring) (f z : ℤ) → HasGrown ring f z z
@@ -120,9 +119,9 @@ term_small : (a b c x y : ℤ) (s t : ℕ) → IsCoefficient Integers a → IsCo
 term_small a b c x y s t ha hb hc i j =
     let e : 3000000 ^ (s + t + 1) ≡ 3000000 ^ s * 3000000 ^ t * 3000000 = pow-add 3000000 (s + t) 1 ∙ ap (λ w. w * 3000000) (pow-add 3000000 s t) in
     subst (λ w. unsigned_abs (a *ℤ x +ℤ b *ℤ y +ℤ c) ≤ w) (sym e)
-        (small_sum (3000000 ^ s) (3000000 ^ t) (unsigned_abs (a *ℤ x)) (unsigned_abs (b *ℤ y)) (unsigned_abs c) _ (power _) (power _)
-            (omega (arith, unsigned_abs-mul a x, mul-le-mul (size_of a ha) i)) (omega (arith, unsigned_abs-mul b y, mul-le-mul (size_of b hb) j)) hc
-            (omega (arith, abs_sum (a *ℤ x +ℤ b *ℤ y) c, abs_sum (a *ℤ x) (b *ℤ y))))
+    (small_sum (3000000 ^ s) (3000000 ^ t) (unsigned_abs (a *ℤ x)) (unsigned_abs (b *ℤ y)) (unsigned_abs c) _ (power _) (power _)
+    (omega (arith, unsigned_abs-mul a x, mul-le-mul (size_of a ha) i)) (omega (arith, unsigned_abs-mul b y, mul-le-mul (size_of b hb) j)) hc
+    (omega (arith, abs_sum (a *ℤ x +ℤ b *ℤ y) c, abs_sum (a *ℤ x) (b *ℤ y))))
 
 cond_small : (b : Bool) → unsigned_abs (cond b (pos 1) (pos 0)) ≤ 1
 cond_small true = omega arith
@@ -196,7 +195,7 @@ module _ (l : LinearMagma) (ok : IsLinearMagma l) where
   along : (f z y x w i j : ℤ) → Alike l.ring y (z +ℤ (f *ℤ l.a) *ℤ i) → Alike l.ring x (y +ℤ (f *ℤ l.b) *ℤ j) → w ≡ l.a *ℤ i +ℤ l.b *ℤ j → Alike l.ring x (z +ℤ f *ℤ w)
   along f z y x w i j p q e =
       joined q (joined (alike_sum ok.modulus p (same _)) (equal_alike l.ring
-          (+ℤ_assoc z _ _ ∙ ap (λ u. z +ℤ u) (ap₂ (λ u v. u +ℤ v) (times_assoc f l.a i) (times_assoc f l.b j) ∙ sym (times_sum f (l.a *ℤ i) (l.b *ℤ j)) ∙ ap (λ u. f *ℤ u) (sym e)))))
+      (+ℤ_assoc z _ _ ∙ ap (λ u. z +ℤ u) (ap₂ (λ u v. u +ℤ v) (times_assoc f l.a i) (times_assoc f l.b j) ∙ sym (times_sum f (l.a *ℤ i) (l.b *ℤ j)) ∙ ap (λ u. f *ℤ u) (sym e)))))
 
   pub gained : (s t : Tree) (f to on : ℤ) (old new then end : Form) → Began l f old new → to ≡ reduced l.ring (f *ℤ l.a) → Gains l s to new then → on ≡ reduced l.ring (f *ℤ l.b) → Gains l t on then end → Gains l (op s t) f old end
   gained s t f to on old new then end began e first d second = record {
@@ -209,7 +208,7 @@ module _ (l : LinearMagma) (ok : IsLinearMagma l) where
         let b : Alike l.ring new.constant (old.constant +ℤ f *ℤ l.c) = joined (is began.constant) (alike_sum ok.modulus (same _) (self _)) in
         let r : Alike l.ring end.constant (new.constant +ℤ f *ℤ (l.a *ℤ i +ℤ l.b *ℤ j)) = along f new.constant then.constant end.constant _ i j p q refl in
         let w : Alike l.ring (constant_of l (op s t)) ((l.a *ℤ i +ℤ l.b *ℤ j) +ℤ l.c) =
-            joined (self _) (alike_sum ok.modulus (joined (self _) (alike_sum ok.modulus (self _) (self _))) (same l.c)) in
+        joined (self _) (alike_sum ok.modulus (joined (self _) (alike_sum ok.modulus (self _) (self _))) (same l.c)) in
         whole end.constant (joined r (joined (alike_sum ok.modulus b (same _)) (joined (equal_alike l.ring (rearranged old.constant f l.c (l.a *ℤ i +ℤ l.b *ℤ j))) (alike_sum ok.modulus (same old.constant) (alike_product ok.modulus (same f) (turned w)))))) (inner _ _ second.constant);
     coefficients = λ v h.
         let i = coefficient_of l s v in

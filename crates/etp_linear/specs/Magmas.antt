@@ -1,5 +1,5 @@
 -- Linear magmas: x ◇ y = a x + b y + c over the integers, or over the integers modulo a number.
-use Rattle.std.specs.Prelude.{◌≢◌, ◌≡◌, ℕ, ℤ, pos, negsuc, ◌+ℤ◌, ◌-ℤ◌, ◌*ℤ◌, ◌≤ℤ◌, Bool, true, false, nat_lt}
+use Rattle.std.specs.Prelude.{◌≢◌, ◌≡◌, ℤ, pos, negsuc, ◌+ℤ◌, ◌-ℤ◌, ◌*ℤ◌, ◌≤ℤ◌, Bool, true, false, nat_lt}
 use Rattle.std.specs.Int.{int_rem_euclid}
 use Rattle.etp_linear.specs.declared.parts.Ring.{Ring}
 use Rattle.etp_linear.specs.declared.parts.Ring.TheVariants.{Integers, Modulo}

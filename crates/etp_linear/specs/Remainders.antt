@@ -1,5 +1,5 @@
 -- What is left modulo a number is of the carrier.
-use Rattle.std.specs.Prelude.{◌≡◌, ◌≢◌, ℕ, zero, suc, ◌<◌, ◌-◌, ◌%◌, ℤ, pos, negsuc, IsTrue, refl}
+use Rattle.std.specs.Prelude.{◌≢◌, ℕ, zero, suc, ◌<◌, ◌-◌, ◌%◌, ℤ, pos, negsuc, IsTrue, refl}
 use Rattle.std.specs.Int.{int_rem_euclid}
 use Rattle.std.proofs.Common.{arith, mod-lt}
 use Rattle.std.proofs.lemmas.Bool.{lt-ltb}

@@ -1,5 +1,5 @@
 -- What is so of linear magmas, as a contract names it.
-use Rattle.std.specs.Prelude.{◌≡◌, ℕ, ℤ, pos, negsuc, ◌↔◌, List}
+use Rattle.std.specs.Prelude.{◌≡◌, ℕ, pos, negsuc, ◌↔◌, List}
 use Rattle.etp_theory.specs.Trees.{Tree, Equation}
 use Rattle.etp_theory.specs.Magmas.{IsClosed, Holds}
 use Rattle.etp_linear.specs.Magmas.{LinearMagma, inside, times, IsLinearMagma}

@@ -38,7 +38,10 @@ impl Linear {
             match self.first_failure_of(laws, *number) {
                 None => {}
                 Some(failure) => {
-                    return Err(LinearRefusal::HoldsFails { law: *number, failure });
+                    return Err(LinearRefusal::HoldsFails {
+                        law: *number,
+                        failure,
+                    });
                 }
             }
         }

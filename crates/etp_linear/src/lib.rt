@@ -16,3 +16,6 @@ pub use linear::Linear;
 pub use parts::{Form, LinearFailure, Ring, Which};
 pub use refusal::LinearRefusal;
 pub use theorems::linear_laws;
+
+#[cfg(test)]
+mod tests;

@@ -6,19 +6,11 @@ use thiserror::Error;
 pub enum LinearRefusal {
     /// The first number that is out of range.
     #[error("coefficient out of range")]
-    Coefficient {
-        which: Which,
-        value: i64,
-    },
+    Coefficient { which: Which, value: i64 },
     /// A law that is to hold fails.
     #[error("holds fails law {law}")]
-    HoldsFails {
-        law: u32,
-        failure: LinearFailure,
-    },
+    HoldsFails { law: u32, failure: LinearFailure },
     /// A law that is to fail holds.
     #[error("fails holds law {law}")]
-    FailsHolds {
-        law: u32,
-    },
+    FailsHolds { law: u32 },
 }

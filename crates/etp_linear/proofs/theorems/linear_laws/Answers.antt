@@ -13,9 +13,10 @@ returns c = record {
   closed = closed_in;
   holds = λ l ok p q.
       let i = in_carrier l.ring l.c ok.c_in_range in
-      let b = by_coefficients l ok.modulus i p q in
-      (λ h. b.0 (Forms.holds_one_form (inside l.ring) (times l) (affine l) (linear l ok.modulus i) _ (generate l ok.modulus) p q h),
-       λ h. Forms.one_form_holds (inside l.ring) (times l) (affine l) (linear l ok.modulus i) _ (generate l ok.modulus) p q (b.1 h));
+      let b = by_coefficients l ok.modulus i p q in (
+        λ h. b.0 (Forms.holds_one_form (inside l.ring) (times l) (affine l) (linear l ok.modulus i) _ (generate l ok.modulus) p q h),
+        λ h. Forms.one_form_holds (inside l.ring) (times l) (affine l) (linear l ok.modulus i) _ (generate l ok.modulus) p q (b.1 h),
+      );
   not_both = not_both;
   value_over_integers = refl;
   value_modulo_seven = refl;

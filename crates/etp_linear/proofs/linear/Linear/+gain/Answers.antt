@@ -1,10 +1,10 @@
-use Rattle.std.proofs.Common.{◌≡◌, ◌≤◌, ◌+◌, ℕ, rules, arith, sym, subst, ap, ap₂, ◌∙◌, refl, ◌≢◌}
-use Rattle.std.specs.Prelude.{ℤ, pos, ◌+ℤ◌, ◌*ℤ◌, ◌<◌, FitsSigned, slice_index_or, slice_set, length}
+use Rattle.std.proofs.Common.{◌≡◌, ◌+◌, ℕ, rules, arith, sym, subst, ap, ap₂, ◌∙◌, refl}
+use Rattle.std.specs.Prelude.{ℤ, pos, ◌+ℤ◌, ◌*ℤ◌, ◌<◌, FitsSigned, slice_set, length}
 use Rattle.std.specs.Int.{w128, w64}
 use Rattle.std.proofs.lemmas.Int.{to_z-of_z, ints}
 use mir.Val.{to_z, of_z}
 use Rattle.std.proofs.lemmas.List.{get_or-set_same, get_or-set_other, length-set}
-use Rattle.etp_theory.specs.Trees.{Tree, var, op, ops, bound}
+use Rattle.etp_theory.specs.Trees.{var, op, ops}
 use Rattle.etp_term.specs.Terms.{tree_of}
 use Rattle.etp_term.specs.declared.term.Term.{Term}
 use Rattle.etp_term.proofs.Opened.{tree_of-var, tree_of-op}
@@ -35,8 +35,8 @@ plus-requires t c =
     let z = coefficient_at c.args.form.now c.in-Var.v in
     let zf : FitsSigned w128 z = search rules in
     subst (CanAdd l.ring _) (sym (to_z-of_z w128 f c.ranges.factor))
-        (subst (λ x. CanAdd l.ring x f) (sym (to_z-of_z w128 z zf))
-            (can_add l.ring f z can.factor_inside (can.each_inside c.in-Var.v h) (can.each_room c.in-Var.v h)))
+    (subst (λ x. CanAdd l.ring x f) (sym (to_z-of_z w128 z zf))
+    (can_add l.ring f z can.factor_inside (can.each_inside c.in-Var.v h) (can.each_room c.in-Var.v h)))
 
 pub times-added-requires : goal.times-added-requires
 times-added-requires t c =
@@ -51,7 +51,7 @@ times-added-requires t c =
     let fe = to_z-of_z w128 f c.ranges.factor in
     let kf : FitsSigned w64 c.args.self.now.c = search rules in
     subst (λ x. CanMultiply l.ring x (to_z w128 (of_z w128 (to_z w64 (of_z w64 c.args.self.now.c))))) (sym fe) (subst (CanMultiply l.ring f) (sym (wide c.args.self.now.c kf))
-        (can_multiply l.ring (ops s) (ops u) f l.c form.constant can.factor_inside ok.c_in_range can.constant_room))
+    (can_multiply l.ring (ops s) (ops u) f l.c form.constant can.factor_inside ok.c_in_range can.constant_room))
 
 pub plus-form-requires : goal.plus-form-requires
 plus-form-requires t c =
@@ -69,7 +69,7 @@ plus-form-requires t c =
     let addedf : FitsSigned w128 c.times-added.result = record { sfits = c.times-added.type_inv } in
     let constantf : FitsSigned w128 form.constant = search rules in
     subst (λ x. CanAdd l.ring x (to_z w128 (of_z w128 c.times-added.result))) (sym (to_z-of_z w128 _ constantf)) (subst (CanAdd l.ring form.constant) (sym (to_z-of_z w128 _ addedf ∙ added))
-        (can_add_constant l.ring ok.modulus (ops s) (ops u) f l.c form.constant can.constant_inside ok.c_in_range can.constant_room))
+    (can_add_constant l.ring ok.modulus (ops s) (ops u) f l.c form.constant can.constant_inside ok.c_in_range can.constant_room))
 
 pub times-to_left-requires : goal.times-to_left-requires
 times-to_left-requires t c =
@@ -84,7 +84,7 @@ times-to_left-requires t c =
     let fe = to_z-of_z w128 f c.ranges.factor in
     let kf : FitsSigned w64 c.args.self.now.a = search rules in
     subst (λ x. CanMultiply l.ring x (to_z w128 (of_z w128 (to_z w64 (of_z w64 c.args.self.now.a))))) (sym fe) (subst (CanMultiply l.ring f) (sym (wide c.args.self.now.a kf))
-        (can_multiply l.ring (ops s) (ops u) f l.a form.constant can.factor_inside ok.a_in_range can.constant_room))
+    (can_multiply l.ring (ops s) (ops u) f l.a form.constant can.factor_inside ok.a_in_range can.constant_room))
 
 pub gain-requires : goal.gain-requires
 gain-requires t c =
@@ -125,7 +125,7 @@ times-to_right-requires t c =
     let fe = to_z-of_z w128 f c.ranges.factor in
     let kf : FitsSigned w64 c.args.self.now.b = search rules in
     subst (λ x. CanMultiply l.ring x (to_z w128 (of_z w128 (to_z w64 (of_z w64 c.args.self.now.b))))) (sym fe) (subst (CanMultiply l.ring f) (sym (wide c.args.self.now.b kf))
-        (can_multiply l.ring (ops s) (ops u) f l.b form.constant can.factor_inside ok.b_in_range can.constant_room))
+    (can_multiply l.ring (ops s) (ops u) f l.b form.constant can.factor_inside ok.b_in_range can.constant_room))
 
 pub gain-requires-in-Op : goal.gain-requires-in-Op
 gain-requires-in-Op t c =
@@ -173,9 +173,9 @@ returns-in-Var t c =
     let h : v < length form.coefficients = omega (arith, can.variables) in
     let new : Form = record { coefficients = slice_set form.coefficients v (to_z w128 (of_z w128 c.plus.result)); constant = form.constant } in
     subst (λ x. Gains l x f form new) (sym is)
-        (gained_var l c.args.self.now.in_range v f form new can (length-set form.coefficients v _) refl
-            (get_or-set_same form.coefficients v _ (pos 0) h ∙ to_z-of_z w128 _ sumf ∙ c.plus.ensures ∙ ap₂ (λ x y. reduced l.ring (x +ℤ y)) (to_z-of_z w128 z zf) (to_z-of_z w128 f c.ranges.factor))
-            (λ w d. get_or-set_other form.coefficients v w _ (pos 0) d))
+    (gained_var l c.args.self.now.in_range v f form new can (length-set form.coefficients v _) refl
+    (get_or-set_same form.coefficients v _ (pos 0) h ∙ to_z-of_z w128 _ sumf ∙ c.plus.ensures ∙ ap₂ (λ x y. reduced l.ring (x +ℤ y)) (to_z-of_z w128 z zf) (to_z-of_z w128 f c.ranges.factor))
+    (λ w d. get_or-set_other form.coefficients v w _ (pos 0) d))
 
 pub returns-in-Op : goal.returns-in-Op
 returns-in-Op t c =

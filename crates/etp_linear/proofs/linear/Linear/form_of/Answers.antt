@@ -1,5 +1,5 @@
-use Rattle.std.proofs.Common.{◌≡◌, ℕ, sym, subst, ◌∙◌, refl, replicate, length}
-use Rattle.std.specs.Prelude.{ℤ, pos, FitsSigned}
+use Rattle.std.proofs.Common.{◌≡◌, ◌∙◌, refl, replicate, length}
+use Rattle.std.specs.Prelude.{pos, FitsSigned}
 use Rattle.std.specs.Int.{w128}
 use Rattle.std.proofs.lemmas.Int.{to_z-of_z}
 use Rattle.etp_term.specs.Terms.{tree_of}
@@ -29,4 +29,4 @@ returns-clause-value c =
     let f : FitsSigned w128 c.one.result = record { sfits = c.one.type_inv } in
     let long : length c.gain.new.form.coefficients ≡ 8 = c.gain.ensures.length_kept in
     form_value l c.args.self.now.in_range (tree_of c.args.term.now) c.gain.new.form c.requires.variables long
-        (started l c.args.self.now.in_range (tree_of c.args.term.now) _ empty_form c.gain.new.form (to_z-of_z w128 _ f ∙ c.one.ensures) (zeros_empty empty_form refl refl) c.gain.ensures)
+    (started l c.args.self.now.in_range (tree_of c.args.term.now) _ empty_form c.gain.new.form (to_z-of_z w128 _ f ∙ c.one.ensures) (zeros_empty empty_form refl refl) c.gain.ensures)

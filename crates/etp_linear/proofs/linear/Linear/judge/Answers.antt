@@ -5,4 +5,4 @@ use Rattle.etp_linear.proofs.linear.Linear.judge.Goals as goal
 pub returns-clause-means : goal.returns-clause-means
 returns-clause-means c =
     right_fact c.args.laws.now.equations (magma_of c.args.self.now) c.args.self.now.in_range c.args.holds.now c.args.fails.now
-        (record { holding = c.in_ok-check_holds.ensures.ok; failing = c.in_ok-check_fails.ensures.ok })
+    (record { holding = c.in_ok-check_holds.ensures.ok; failing = c.in_ok-check_fails.ensures.ok })

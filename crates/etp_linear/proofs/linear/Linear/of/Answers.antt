@@ -1,9 +1,9 @@
-use Rattle.std.proofs.Common.{◌≡◌, rules, sym, subst, ◌≢◌}
+use Rattle.std.proofs.Common.{rules, sym, subst, ◌≢◌}
 use Rattle.std.specs.Int.{w64}
 use Rattle.std.proofs.lemmas.Int.{to_z-of_z}
-use Rattle.etp_linear.specs.Magmas.{LinearMagma, IsCoefficient, IsLinearMagma}
+use Rattle.etp_linear.specs.Magmas.{LinearMagma, IsCoefficient}
 use Rattle.etp_linear.specs.Judgements.{IsOutOfRange}
-use Rattle.etp_linear.specs.declared.parts.Ring.TheVariants.{Integers, Modulo}
+use Rattle.etp_linear.specs.declared.parts.Ring.TheVariants.{Modulo}
 use Rattle.etp_linear.proofs.linear.Linear.of.Goals as goal
 
 pub returns-then-not-allows-3-clause-err : goal.returns-then-not-allows-3-clause-err

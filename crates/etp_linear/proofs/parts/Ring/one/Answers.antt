@@ -1,6 +1,5 @@
-use Rattle.std.proofs.Common.{◌≡◌, ◌≢◌, ap, ◌∙◌, sym, subst}
+use Rattle.std.proofs.Common.{ap, ◌∙◌, sym}
 use Rattle.etp_linear.specs.Values.{one}
-use Rattle.etp_linear.specs.declared.parts.Ring.TheVariants.{Modulo}
 use Rattle.etp_linear.proofs.Reductions.{one_is}
 use Rattle.etp_linear.proofs.parts.Ring.one.Goals as goal
 
