@@ -38,12 +38,7 @@ pub fn refuse_with(text: &mut Text, line: u64, why: &[u8], n: u32) -> Result<boo
 }
 
 /// Writes a refusal line that ends with a name.
-pub fn refuse_name(
-    text: &mut Text,
-    line: u64,
-    why: &[u8],
-    name: &[u8],
-) -> Result<bool, AllocError>
+pub fn refuse_name(text: &mut Text, line: u64, why: &[u8], name: &[u8]) -> Result<bool, AllocError>
     requires { text.old ≡ [] }
     ensures { IfOk result (λ refusal. (text.new ≡ reply_text line (refused (why.now ++ name.now))) × (refusal ≡ true)) }
 {
@@ -55,12 +50,7 @@ pub fn refuse_name(
 }
 
 /// Writes the refusal line of a file's content.
-pub fn refuse_file(
-    text: &mut Text,
-    line: u64,
-    name: &[u8],
-    why: &[u8],
-) -> Result<bool, AllocError>
+pub fn refuse_file(text: &mut Text, line: u64, name: &[u8], why: &[u8]) -> Result<bool, AllocError>
     requires { text.old ≡ [] }
     ensures { IfOk result (λ refusal. (text.new ≡ reply_text line (refused_file name.now why.now)) × (refusal ≡ true)) }
 {

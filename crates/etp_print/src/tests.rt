@@ -1,4 +1,7 @@
-use crate::{begin_refusal, body_refusal_text, file_refusal_text, refuse, refuse_file, refuse_name, refuse_with, replay_text};
+use crate::{
+    begin_refusal, body_refusal_text, file_refusal_text, refuse, refuse_file, refuse_name,
+    refuse_with, replay_text,
+};
 use etp_items::BodyRefusal;
 use etp_ledger::LedgerRefusal;
 use etp_replay::ReplayRefusal;
@@ -27,10 +30,17 @@ fn refusal_lines_are_written(rt: HostRuntime) {
 #[test]
 fn refusals_have_texts(rt: HostRuntime) {
     let alloc = rt.alloc();
-    let body = BodyRefusal::UnknownLaw { line: 1, number: 4695 };
+    let body = BodyRefusal::UnknownLaw {
+        line: 1,
+        number: 4695,
+    };
     let text = body_refusal_text(alloc, &body).expect(&rt, "memory");
     assert!(rt; text.as_slice() == b"unknown law 4695 in line 1");
-    let replay = ReplayRefusal::Reference { lemma: 1, step: 1, line: 1 };
+    let replay = ReplayRefusal::Reference {
+        lemma: 1,
+        step: 1,
+        line: 1,
+    };
     let text = replay_text(alloc, &replay).expect(&rt, "memory");
     assert!(rt; text.as_slice() == b"reference lemma 1 step 1 line 1");
     let file = LedgerRefusal::CiteMissing { cite: 2 };

@@ -34,11 +34,7 @@ fn append_file(text: &mut Text, name: &[u8], body: &Body) -> Result<(), AllocErr
 }
 
 /// Writes a line for each file that stands, and how many there are.
-pub fn answer_files(
-    text: &mut Text,
-    ledger: &Ledger,
-    line: u64,
-) -> Result<bool, AllocError>
+pub fn answer_files(text: &mut Text, ledger: &Ledger, line: u64) -> Result<bool, AllocError>
     requires { text.old ≡ [] }
     ensures { IfOk result (λ refusal. Gives line text.new refusal (λ reply. reply ≡ answered (files_text ledger.now.files))) }
 {
