@@ -47,8 +47,8 @@ fn obey<'a>(
     requires short { IsWithin 4096 request }
     ensures gives { IfOk result (λ outcome. (s : KnownShelf)
         → IsOutcome s line text.new (record { opened = Some opened.new; filing = filing.new })
-            (OpenReply s (opened_of opened.old) line (request_from request.entry))
-            (LoadsName opened.old.ledger.files (request_from request.entry)) outcome) }
+        (OpenReply s (opened_of opened.old) line (request_from request.entry))
+        (LoadsName opened.old.ledger.files (request_from request.entry)) outcome) }
     ensures agrees { OnOk result (Agrees opened.new) }
 {
     match request {
@@ -93,8 +93,8 @@ fn open_load<'a>(
     requires agrees { Agrees opened.old }
     ensures gives { IfOk result (λ outcome. (s : KnownShelf)
         → IsOutcome s line text.new (record { opened = Some opened.new; filing = None })
-            (LoadReply s (opened_of opened.old) line word.now)
-            (LoadsName opened.old.ledger.files (load word.now)) outcome) }
+        (LoadReply s (opened_of opened.old) line word.now)
+        (LoadsName opened.old.ledger.files (load word.now)) outcome) }
     ensures agrees { OnOk result (Agrees opened.new) }
 {
     let filing = open_file(alloc, opened, Some(word), line)?;
@@ -119,7 +119,7 @@ fn obey_first<'a>(
     requires short { IsWithin 4096 request }
     ensures gives { IfOk result (λ outcome. (s : KnownShelf)
         → IsOutcome s line text.new desk.new (FirstReply s line (request_from request.entry))
-            (LoadsName [] (request_from request.entry)) outcome) }
+        (LoadsName [] (request_from request.entry)) outcome) }
     ensures laws { OnOk result (HasRightLaws desk.new) }
 {
     match request {
@@ -145,7 +145,7 @@ fn open_and_obey<'a>(
     requires short { IsWithin 4096 request }
     ensures gives { IfOk result (λ outcome. (s : KnownShelf)
         → IsOutcome s line text.new desk.new (OpenedReply s line (request_from request.entry))
-            (LoadsName [] (request_from request.entry)) outcome) }
+        (LoadsName [] (request_from request.entry)) outcome) }
     ensures laws { OnOk result (HasRightLaws desk.new) }
 {
     let mut opened = Opened::start(alloc, ListOrder::Four)?;

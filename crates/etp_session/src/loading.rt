@@ -78,7 +78,7 @@ pub(crate) fn load<H: Shelf>(
     requires loads { (n : ℕ) × IsLoading desk.old n name.now [] filing }
     ensures ok { IfOk result (λ refused. (n : ℕ) (at : IsLoading desk.old n name.now [] filing)
         → GivesState n text.new refused
-            (LoadReply (known limit (H.keeps shelf.old)) (opened_of at.opened) n name.now) (IsDesk desk.new)) }
+        (LoadReply (known limit (H.keeps shelf.old)) (opened_of at.opened) n name.now) (IsDesk desk.new)) }
     ensures laws { OnOk result (HasRightLaws desk.new) }
     ensures read { IsErrOf result Ending.ReadFault → Rose (H.faults shelf.old) (H.faults shelf.new) × (H.failed_name shelf.new ≡ name.now) }
     ensures too_much { IsErrOf result Ending.TooMuch → IsTooLong (known limit (H.keeps shelf.old)) name.now
