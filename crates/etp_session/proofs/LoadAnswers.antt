@@ -34,6 +34,7 @@ loading-lines s d n name f now h l = record {
 pub answers-loaded : (s : KnownShelf) (d : Desk) (n : ℕ) (name : List ℕ) (f now : Filing) (text : List ℕ) (flag : Bool) (IsAfter : State → Type 0) (h : LoadedLines s name f now)
     → ((lines : List LineText) (l : IsLoading d n name lines now) → IsLoaded s name lines → GivesState n text flag (LoadReply s (opened_of l.opened) n name) IsAfter)
     → (l : IsLoading d n name [] f) → GivesState n text flag (LoadReply s (opened_of l.opened) n name) IsAfter
+unfolding loading-lines
 answers-loaded s d n name f now text flag IsAfter h give l = give h.lines (loading-lines s d n name f now h l) h.loaded
 
 -- what a line that loads a file tells
