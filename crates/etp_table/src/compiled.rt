@@ -75,17 +75,20 @@ impl<'l> CompiledLaw<'l> {
         }
     }
 
-    /// Looks at so many assignments in lexicographic order, up to the first that fails.
-    pub(crate) fn walk(&self, table: &OpTable, looked_at: u64) -> Verdict
+    /// Looks at so many assignments of K variables in lexicographic order, up to the first that
+    /// fails.
+    pub(crate) fn walk<const K: usize>(&self, table: &OpTable, looked_at: u64) -> Verdict
         requires compiled { IsCompiled self.now }
+        requires variables { variables (law_of self.now) ≡ K }
         requires all { looked_at ≡ min limit (assignments table.now (law_of self.now)) }
         ensures { IsVerdict table.now (law_of self.now) result }
     {
         let size = table.size();
-        let last = self.program.last as usize;
+        let mut values = [0u8; K];
         let mut registers = [0; REGISTERS];
         let mut passed = 0;
         while passed < looked_at {
+            registers[..K - 1].copy_from_slice(&values[..K - 1]);
             run(
                 table,
                 self.program.kept.as_slice(),
@@ -94,15 +97,16 @@ impl<'l> CompiledLaw<'l> {
             );
             let count = (looked_at - passed).min(size as u64) as u8;
             if let Some(value) = self.walk_row(table, &mut registers, count) {
+                values[K - 1] = value;
                 return Verdict::Fails {
-                    point: point_at(&registers, last, value),
+                    point: point_of(&values),
                     left: registers[self.left as usize],
                     right: registers[self.right as usize],
                 };
             }
             passed += count as u64;
             if passed < looked_at {
-                advance(&mut registers[..last], size);
+                advance(&mut values[..K - 1], size);
             }
         }
         Verdict::Holds { looked_at }
@@ -146,18 +150,17 @@ fn run(table: &OpTable, instructions: &[Instruction], first: usize, registers: &
     }
 }
 
-// The point of the registers with this value of the last variable.
-fn point_at(registers: &Registers, last: usize, value: u8) -> Point
-    requires { last ≤ 6 }
-    ensures variables { result.variables ≡ last + 1 }
-    ensures values { values_of result ≡ assignment_at last registers.now value }
+// The point of an assignment.
+fn point_of<const K: usize>(assignment: &[u8; K]) -> Point
+    requires { K ≤ 8 }
+    ensures variables { result.variables ≡ K }
+    ensures values { values_of result ≡ assignment.now }
 {
     let mut values = [0; 8];
-    values[..last].copy_from_slice(&registers[..last]);
-    values[last] = value;
+    values[..K].copy_from_slice(assignment);
     Point {
         values,
-        variables: last as u8 + 1,
+        variables: K as u8,
     }
 }
 

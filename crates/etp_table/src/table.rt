@@ -111,9 +111,29 @@ impl OpTable {
         ensures tells { Tells self.now (equation_of law.now) result }
         ensures variables { HasVariables (equation_of law.now) (variables (equation_of law.now)) }
     {
+        macro_rules! by_variables {
+            ($($k:literal)*) => {
+                match variables_of(law) {
+                    $($k => self.first_failure_of::<$k>(law),)*
+                    _ => unreachable!(),
+                }
+            };
+        }
+        by_variables!(1 2 3 4 5 6 7)
+    }
+
+    // The same for a law of K variables.
+    fn first_failure_of<const K: usize>(&self, law: &Law) -> Verdict
+        requires listed { Listed (equation_of law.now) }
+        requires small { law_ops (equation_of law.now) ≤ 5 }
+        requires variables { variables (equation_of law.now) ≡ K }
+        ensures verdict { IsVerdict self.now (equation_of law.now) result }
+        ensures tells { Tells self.now (equation_of law.now) result }
+        ensures variables { HasVariables (equation_of law.now) (variables (equation_of law.now)) }
+    {
         let count = variables_of(law);
         let looked_at = self.assignments(count).min(LOOKED_AT);
-        CompiledLaw::of(law, count).walk(self, looked_at)
+        CompiledLaw::of(law, count).walk::<K>(self, looked_at)
     }
 
     /// How many assignments so many variables have.
