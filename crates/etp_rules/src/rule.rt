@@ -74,7 +74,7 @@ impl RuleList {
 
     /// Whether every variable of the rules is below 64.
     pub fn has_small_variables(&self) -> bool
-        ensures { IsTrue result ↔ HasSmallVariables (rules_of self.now) }
+        ensures { IsTrue result → HasSmallVariables (rules_of self.now) }
     {
         are_small(self.as_slice())
     }
