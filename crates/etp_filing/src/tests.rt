@@ -16,9 +16,9 @@ fn a_file_is_read_accepted_and_taken_out(rt: HostRuntime) {
     let mut text = Text::empty(alloc);
     let refused = answer_file(alloc, &mut text, &mut opened, filing, true).expect(&rt, "memory");
     assert!(rt; !refused);
-    assert!(rt; text.as_slice() == b"accepted p: implies 4 3\n");
+    assert!(rt; text.as_slice() == b"accepted p: implies 4 3\n".as_slice());
     text.clear();
     let refused = answer_withdrawal(alloc, &mut text, &mut opened, b"p", 12).expect(&rt, "memory");
     assert!(rt; !refused);
-    assert!(rt; text.as_slice() == b"withdrawn p\n");
+    assert!(rt; text.as_slice() == b"withdrawn p\n".as_slice());
 }

@@ -12,19 +12,19 @@ fn refusal_lines_are_written(rt: HostRuntime) {
     let alloc = rt.alloc();
     let mut text = Text::empty(alloc);
     assert!(rt; refuse(&mut text, 7, b"bad line").expect(&rt, "memory"));
-    assert!(rt; text.as_slice() == b"refused 7: bad line\n");
+    assert!(rt; text.as_slice() == b"refused 7: bad line\n".as_slice());
     text.clear();
     assert!(rt; refuse_with(&mut text, 7, b"syntax at ", 3).expect(&rt, "memory"));
-    assert!(rt; text.as_slice() == b"refused 7: syntax at 3\n");
+    assert!(rt; text.as_slice() == b"refused 7: syntax at 3\n".as_slice());
     text.clear();
     assert!(rt; refuse_name(&mut text, 7, b"name taken ", b"p").expect(&rt, "memory"));
-    assert!(rt; text.as_slice() == b"refused 7: name taken p\n");
+    assert!(rt; text.as_slice() == b"refused 7: name taken p\n".as_slice());
     text.clear();
     assert!(rt; refuse_file(&mut text, 7, b"p", b"not built").expect(&rt, "memory"));
-    assert!(rt; text.as_slice() == b"refused 7: p: not built\n");
+    assert!(rt; text.as_slice() == b"refused 7: p: not built\n".as_slice());
     text.clear();
     begin_refusal(&mut text, 7).expect(&rt, "memory");
-    assert!(rt; text.as_slice() == b"refused 7: ");
+    assert!(rt; text.as_slice() == b"refused 7: ".as_slice());
 }
 
 #[test]
@@ -35,15 +35,15 @@ fn refusals_have_texts(rt: HostRuntime) {
         number: 4695,
     };
     let text = body_refusal_text(alloc, &body).expect(&rt, "memory");
-    assert!(rt; text.as_slice() == b"unknown law 4695 in line 1");
+    assert!(rt; text.as_slice() == b"unknown law 4695 in line 1".as_slice());
     let replay = ReplayRefusal::Reference {
         lemma: 1,
         step: 1,
         line: 1,
     };
     let text = replay_text(alloc, &replay).expect(&rt, "memory");
-    assert!(rt; text.as_slice() == b"reference lemma 1 step 1 line 1");
+    assert!(rt; text.as_slice() == b"reference lemma 1 step 1 line 1".as_slice());
     let file = LedgerRefusal::CiteMissing { cite: 2 };
     let text = file_refusal_text(alloc, &file).expect(&rt, "memory");
-    assert!(rt; text.as_slice() == b"cite missing 2");
+    assert!(rt; text.as_slice() == b"cite missing 2".as_slice());
 }

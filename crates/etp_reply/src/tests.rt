@@ -20,10 +20,10 @@ fn a_file_is_read_from_the_shelf(rt: HostRuntime) {
     let Outcome::Loads(name, filing) = outcome else {
         panic!(rt; "nothing is loaded");
     };
-    assert!(rt; name == b"f");
+    assert!(rt; name == b"f".as_slice());
     let filing = take_line(filing, Some(b"proof 43 43")).expect(&rt, "memory");
     assert!(rt; respond_loaded(alloc, &mut text, &mut desk, filing).expect(&rt, "memory"));
-    assert!(rt; text.as_slice() == b"refused 7: f: unfinished at 2\n");
+    assert!(rt; text.as_slice() == b"refused 7: f: unfinished at 2\n".as_slice());
 }
 
 #[test]
@@ -35,5 +35,5 @@ fn an_open_body_is_refused_at_the_end(rt: HostRuntime) {
     assert!(rt; matches!(&outcome, Outcome::Replied(false)));
     assert_eq!(rt; text.len(), 0);
     assert!(rt; respond_at_end(alloc, &mut text, &mut desk).expect(&rt, "memory"));
-    assert!(rt; text.as_slice() == b"refused 7: f: unfinished at 1\n");
+    assert!(rt; text.as_slice() == b"refused 7: f: unfinished at 1\n".as_slice());
 }
