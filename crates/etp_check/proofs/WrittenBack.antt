@@ -1,4 +1,4 @@
--- Valid bodies that were read are written and read again.
+-- Right bodies that were read are written and read again.
 use Rattle.std.proofs.Common.{ℕ, Bool, true, List, map}
 use Rattle.etp_theory.specs.Trees.{Equation}
 use Rattle.etp_io.specs.Texts.{LineText, lines_of}
@@ -9,14 +9,14 @@ use Rattle.etp_items.specs.Written.{written_body, IsShortBody}
 use Rattle.etp_items.proofs.Writable.{body_writable}
 use Rattle.etp_items.proofs.ShortLines as Lines
 use Rattle.etp_items.proofs.ReadAgain.{written_body_read_again}
-use Rattle.etp_check.specs.Checks.{IsValidBody}
+use Rattle.etp_check.specs.Checks.{IsRightBody}
 
 pub valid_body_short : (laws : List Equation) (cited : List ℕ) (count : ℕ) (lines : List LineText) (closed : Bool) (body : FileBody)
-    → IsReadBody count lines closed body → IsValidBody laws body cited → IsShortBody body
+    → IsReadBody count lines closed body → IsRightBody laws body cited → IsShortBody body
 valid_body_short laws cited count lines closed (proof p) read valid =
-    Lines.valid_body_short (law_at laws p.hypothesis) (law_at laws p.goal) (map (law_at laws) cited) p valid.right (body_writable lines (proof p) read.is_body)
+    Lines.valid_body_short (law_at laws p.hypothesis) (law_at laws p.goal) (map (law_at laws) cited) p valid (body_writable lines (proof p) read.is_body)
 
 pub valid_body_reads : (laws : List Equation) (cited : List ℕ) (count : ℕ) (lines : List LineText) (closed : Bool) (body : FileBody)
-    → IsReadBody count lines closed body → IsValidBody laws body cited → IsReadBody count (lines_of (written_body body)) true body
+    → IsReadBody count lines closed body → IsRightBody laws body cited → IsReadBody count (lines_of (written_body body)) true body
 valid_body_reads laws cited count lines closed body read valid =
     written_body_read_again count lines closed body read (valid_body_short laws cited count lines closed body read valid)

@@ -1,6 +1,6 @@
 ghost use Rattle.etp_check.specs.WrittenBodies.{WrittenLaws};
 
-/// A valid body that was read is written in short lines, and these, read again, are the body.
+/// A right body that was read is written in short lines, and these, read again, are the body.
 pub fn written_laws()
     ensures { WrittenLaws }
 {}
