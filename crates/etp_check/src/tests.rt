@@ -2,7 +2,7 @@ use crate::check;
 use etp_closure::Fact;
 use etp_items::Body;
 use etp_laws::Laws;
-use etp_replay::{Cites, Lemma, Lemmas, Proof, Step, Steps};
+use etp_proof::{Cites, Lemma, Lemmas, Proof, Step, Steps};
 use etp_term::{NoMemory, Position, Term};
 use sqlite_items::Boxed;
 use std::alloc::Global;

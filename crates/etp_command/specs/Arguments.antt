@@ -1,6 +1,6 @@
 -- What the words of the command line ask.
 use Rattle.std.specs.Prelude.{◌≡◌, ℕ, List, [], ◌∷◌, codes, ◌&&◌, if◌then◌else◌}
-use Rattle.etp_items.specs.Words.{is_word}
+use Rattle.etp_words.specs.Words.{is_word}
 use Rattle.etp_command.specs.declared.arguments.Task.{Task}
 use Rattle.etp_command.specs.declared.arguments.Task.TheVariants.{Session, Laws, Unknown}
 use Rattle.etp_command.specs.declared.request.ListOrder.TheVariants.{Four, Five}

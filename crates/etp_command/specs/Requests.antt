@@ -4,8 +4,8 @@ use Rattle.std.specs.declared.option.Option.{Option}
 use Rattle.std.specs.Option.{option_map}
 use Rattle.std.specs.List.{list_any}
 use Rattle.etp_io.specs.Texts.{LineText, whole, too_long}
-use Rattle.etp_items.specs.Words.{words_of, behind_first, is_word, is_comment}
-use Rattle.etp_items.specs.Numbers.{number_of}
+use Rattle.etp_words.specs.Words.{words_of, behind_first, is_word, is_comment}
+use Rattle.etp_words.specs.Numbers.{number_of}
 
 -- what is asked of the laws, of the files that stand and of the answers; it changes none of them
 pub data Query : Type 0 where

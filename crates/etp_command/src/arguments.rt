@@ -3,7 +3,7 @@ ghost use Rattle.std.specs.String.{string_bytes};
 ghost use Rattle.etp_command.specs.Arguments.{task_of};
 
 use crate::request::ListOrder;
-use etp_items::is;
+use etp_words::is;
 
 /// What the words of the command line ask.
 #[derive(Clone, Copy, Debug, PartialEq, Eq)]

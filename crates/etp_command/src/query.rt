@@ -2,13 +2,12 @@
 ghost use Rattle.std.specs.Prelude.{ℕ, ◌≡◌, ◌≤◌, ◌<◌, ◌++◌, ◌∷◌, ◌⊎◌, [], take, drop, length, IfSome, MatchOption, None, Some, not, true};
 ghost use Rattle.std.specs.List.{list_any};
 ghost use Rattle.std.specs.Option.{option_map};
-ghost use Rattle.etp_text.specs.Machine.{skip_blanks};
-ghost use Rattle.etp_items.specs.Words.{words_of, is_word};
+ghost use Rattle.etp_words.specs.Words.{skip_blanks, words_of, is_word};
 ghost use Rattle.etp_command.specs.Requests.{only_pair, number_query, lone_query, unbuilt, query_of};
 ghost use Rattle.etp_command.specs.Values.{query_from, IsQueryWithin};
 
 use crate::request::only_number;
-use etp_items::{is, next_word, number_word, skip_blanks};
+use etp_words::{is, next_word, number_word, skip_blanks};
 
 /// What is asked of the laws, of the files that stand and of the answers; it changes none of them.
 /// The text of `number` is a part of the line.

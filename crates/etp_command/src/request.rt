@@ -1,12 +1,12 @@
 // What a line asks, read by its first word.
 ghost use Rattle.std.specs.Prelude.{ℕ, ◌≡◌, ◌≤◌, ◌<◌, ◌++◌, ◌∷◌, ◌⊎◌, [], take, drop, length, IfSome, MatchOption, None, Some, not, true};
 ghost use Rattle.std.specs.Option.{option_copied, option_map};
-ghost use Rattle.etp_items.specs.Words.{words_of};
+ghost use Rattle.etp_words.specs.Words.{words_of};
 ghost use Rattle.etp_command.specs.Requests.{request_of, only_number, only_word, order_request, load_request, withdraw_request, query_request};
 ghost use Rattle.etp_command.specs.Values.{request_from, query_from, operations_of, IsQueryWithin, IsWithin};
 
 use crate::query::{Query, read_query};
-use etp_items::{is, next_word, number_word};
+use etp_words::{is, next_word, number_word};
 
 /// The order of a session: the most operations that its laws have, 4 or 5.
 #[derive(Clone, Copy, Debug, PartialEq, Eq)]

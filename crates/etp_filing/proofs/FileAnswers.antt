@@ -2,8 +2,8 @@
 use Rattle.std.proofs.Common.{◌≡◌, ℕ, List, [], ◌∷◌, ◌++◌, refl, sym, ◌∙◌, ap, subst, Option, None, Some, Bool, true, false}
 use Rattle.etp_io.specs.Texts.{LineText, whole, too_long}
 use Rattle.std.specs.Prelude.{is_some, position, if◌then◌else◌}
-use Rattle.etp_items.specs.Words.{words_of}
-use Rattle.etp_items.specs.BodyLines.{are_blank}
+use Rattle.etp_words.specs.Words.{words_of}
+use Rattle.etp_words.specs.Words.{are_blank}
 use Rattle.etp_items.specs.declared.reader.BodyReader.{BodyReader}
 use Rattle.etp_items.specs.Work.{HasRead}
 use Rattle.etp_ledger.specs.Files.{File, is_named, body_named, Stands}

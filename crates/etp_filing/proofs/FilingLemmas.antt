@@ -10,13 +10,13 @@ use Rattle.std.proofs.lemmas.Bool.{lt-ltb, le-ltb}
 use Rattle.std.proofs.lemmas.Option.{slice_get-get_or}
 use Rattle.etp_laws.specs.Listing.{trivial}
 use Rattle.etp_theory.specs.Trees.{Equation}
-use Rattle.etp_theory.specs.Proofs.{Lemma}
 use Rattle.etp_laws.proofs.Entries.{entry_after}
-use Rattle.etp_theory.specs.Numbered.{law_numbered}
-use Rattle.etp_items.specs.Words.{words_of}
-use Rattle.etp_items.specs.BodyLines.{Version, plain, citing, Line, heading, cite, are_blank}
+use Rattle.etp_theory.specs.Numbered.{law_numbered, IsLaw}
+use Rattle.etp_words.specs.Words.{words_of, are_blank}
 use Rattle.etp_items.specs.Bodies.{FileBody, proof}
-use Rattle.etp_items.specs.Reading.{Place, opening, headed, within, after, Reads, cite_limit, lines_said, IsBody, IsReadBody, IsListed}
+use Rattle.etp_items.specs.Reading.{IsBody, IsReadBody}
+use Rattle.etp_items.proofs.Writable.{body_writable}
+use Rattle.etp_items.proofs.ReadAgain.{listed_numbers}
 use Rattle.etp_check.specs.Checks.{IsListedBody, HasContent}
 use Rattle.etp_ledger.specs.Files.{File, is_named, body_named, Stands}
 use Rattle.etp_filing.specs.FileReplies.{names_unbuilt, begins_unbuilt, are_all_blank}
@@ -120,48 +120,9 @@ placed-stands name files k h = by (body_named name files) refl
         let x : None ≡ Some k = rw f at h in absurd (cc)
     by (Some b) e = rw e refl
 
-cite_place : (v : Version) (n : ℕ) (name : List ℕ) (next : Place) → after (headed v n) (cite name) ≡ Some next → next ≡ headed citing (n + 1)
-cite_place plain n name next h = absurd (cc)
-cite_place citing n name next h = by (nat_lt n cite_limit) h
-  where
-    by : (b : Bool) → (if b then Some (headed citing (n + 1)) else None) ≡ Some next → next ≡ headed citing (n + 1)
-    by true h = cc
-    by false h = absurd (cc)
-
--- cites alone don't make a proof
-no_lemma : (v w : Version) (n : ℕ) (lines : List LineText) (names : List (List ℕ)) → Reads (headed v n) lines (map cite names) (within w) → ⊥
-no_lemma v w n [] names h = let e : within w ≡ headed v n = h.1 in absurd (cc)
-no_lemma v w n (too_long ∷ lines) names h = h
-no_lemma v w n (whole line ∷ lines) names (inl h) = no_lemma v w n lines names h.1
-no_lemma v w n (whole line ∷ lines) [] (inr h) = let e : [] ≡ h.0 ∷ h.2 = h.6 in absurd (cc)
-no_lemma v w n (whole line ∷ lines) (name ∷ names) (inr h) =
-    let e : cite name ∷ map cite names ≡ h.0 ∷ h.2 = h.6 in
-    let said : h.0 ≡ cite name = cc in
-    let more : h.2 ≡ map cite names = cc in
-    let next : h.1 ≡ headed citing (n + 1) = cite_place v n name h.1 (subst (λ (l : Line). after (headed v n) l ≡ Some h.1) said h.4) in
-    no_lemma citing w (n + 1) lines names (subst (λ (l : List Line). Reads (headed citing (n + 1)) lines l (within w)) more (subst (λ (q : Place). Reads q lines h.2 (within w)) next h.5))
-
-no_heading : (v w : Version) (e f : ℕ) (lines : List LineText) (names : List (List ℕ)) → Reads opening lines (heading v e f ∷ map cite names) (within w) → ⊥
-no_heading v w e f [] names h = let x : heading v e f ∷ map cite names ≡ [] = h.0 in absurd (cc)
-no_heading v w e f (too_long ∷ lines) names h = h
-no_heading v w e f (whole line ∷ lines) names (inl h) = no_heading v w e f lines names h.1
-no_heading v w e f (whole line ∷ lines) names (inr h) =
-    let x : heading v e f ∷ map cite names ≡ h.0 ∷ h.2 = h.6 in
-    let said : h.0 ≡ heading v e f = cc in
-    let more : h.2 ≡ map cite names = cc in
-    let there : Some (headed v 0) ≡ Some h.1 = subst (λ (l : Line). after opening l ≡ Some h.1) said h.4 in
-    let next : h.1 ≡ headed v 0 = cc in
-    no_lemma v w 0 lines names (subst (λ (l : List Line). Reads (headed v 0) lines l (within w)) more (subst (λ (q : Place). Reads q lines h.2 (within w)) next h.5))
-
--- lines that are a body have a lemma
+-- lines that are a body have what its check requires
 pub body-content : (lines : List LineText) (b : FileBody) → IsBody lines b → HasContent b
-body-content lines (proof p) h = by p.lemmas refl
-  where
-    by : (ls : List Lemma) → p.lemmas ≡ ls → 0 < length p.lemmas
-    by [] e =
-        let all : lines_said h.0 p ≡ heading h.0 p.hypothesis p.goal ∷ map cite p.cites = rw e (ap (λ (l : List Line). heading h.0 p.hypothesis p.goal ∷ l) (append-nil (map cite p.cites))) in
-        absurd (no_heading h.0 h.0 p.hypothesis p.goal lines p.cites (rw all at h.1))
-    by (l ∷ ls) e = rw e (omega arith)
+body-content lines (proof p) h = (body_writable lines (proof p) h).0
 
 entry-there : (laws : List Equation) (n : ℕ) → 1 ≤ n → n ≤ length laws → IsSome (law_numbered laws n)
 entry-there laws n h k =
@@ -172,6 +133,10 @@ entry-there laws n h k =
 -- and its law numbers are listed
 pub body-listed : (laws : List Equation) (count : ℕ) (lines : List LineText) (closed : Bool) (b : FileBody) → count ≡ length laws → IsReadBody count lines closed b → IsListedBody laws b
 body-listed laws count lines closed (proof p) e h =
-    let hypothesis : IsListed count p.hypothesis = All-head (IsListed count) p.hypothesis (p.goal ∷ []) h.listed in
-    let goal : IsListed count p.goal = All-head (IsListed count) p.goal [] (All-tail (IsListed count) p.hypothesis (p.goal ∷ []) h.listed) in
-    record { hypothesis_listed = entry-there laws p.hypothesis hypothesis.0 (rw (sym e) hypothesis.1); goal_listed = entry-there laws p.goal goal.0 (rw (sym e) goal.1) }
+    let listed = listed_numbers count lines closed (proof p) h in
+    let hypothesis : IsLaw count p.hypothesis = All-head (IsLaw count) p.hypothesis (p.goal ∷ []) listed in
+    let goal : IsLaw count p.goal = All-head (IsLaw count) p.goal [] (All-tail (IsLaw count) p.hypothesis (p.goal ∷ []) listed) in
+    record {
+      hypothesis_listed = entry-there laws p.hypothesis hypothesis.from_one (rw (sym e) hypothesis.to_last);
+      goal_listed = entry-there laws p.goal goal.from_one (rw (sym e) goal.to_last);
+    }

@@ -4,12 +4,12 @@ use Rattle.std.specs.Prelude.{codes, slice_get}
 use Rattle.etp_laws.specs.Listing.{IsTheList}
 use Rattle.etp_laws.specs.LawLists.{LawList}
 use Rattle.etp_io.specs.Texts.{LineText}
-use Rattle.etp_replay.specs.Names.{IsName}
+use Rattle.etp_proof.specs.Names.{IsName}
 use Rattle.etp_items.specs.Bodies.{FileBody}
 use Rattle.etp_items.specs.Reading.{IsReadBody}
 use Rattle.etp_items.proofs.OneBody.{one_body}
 use Rattle.etp_items.proofs.OneRefusal.{body_stands, one_refusal}
-use Rattle.etp_items.specs.declared.refusal.BodyRefusal.{BodyRefusal}
+use Rattle.etp_reading.specs.declared.refusal.BodyRefusal.{BodyRefusal}
 use Rattle.etp_check.specs.Checks.{fact_said}
 use Rattle.etp_ledger.specs.Files.{File, Stands, body_named}
 use Rattle.etp_ledger.specs.Refusals.{IsFileRefused, IsWithdrawalRefused}

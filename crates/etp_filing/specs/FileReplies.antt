@@ -3,11 +3,10 @@ use Rattle.std.specs.Prelude.{◌≡◌, ◌≢◌, ℕ, List, [], ◌∷◌, �
 use Rattle.std.specs.declared.option.Option.{Option}
 use Rattle.std.specs.List.{list_any}
 use Rattle.etp_io.specs.Texts.{LineText, whole, too_long}
-use Rattle.etp_replay.specs.Names.{IsName}
+use Rattle.etp_proof.specs.Names.{IsName}
 use Rattle.etp_items.specs.Bodies.{FileBody}
-use Rattle.etp_items.specs.BodyLines.{are_blank}
 use Rattle.etp_items.specs.Reading.{IsReadBody, Refuses}
-use Rattle.etp_items.specs.declared.refusal.BodyRefusal.{BodyRefusal}
+use Rattle.etp_reading.specs.declared.refusal.BodyRefusal.{BodyRefusal}
 use Rattle.etp_check.specs.Checks.{fact_said}
 use Rattle.etp_theory.specs.Reach.{Fact, implies, refutes}
 use Rattle.etp_ledger.specs.Files.{File, Stands, body_named}
@@ -15,7 +14,7 @@ use Rattle.etp_ledger.specs.Accepting.{IsAccepted}
 use Rattle.etp_ledger.specs.Refusals.{IsFileRefused}
 use Rattle.etp_ledger.specs.declared.refusal.LedgerRefusal.{LedgerRefusal}
 use Rattle.etp_ledger.specs.declared.refusal.LedgerRefusal.TheVariants.{NoMemory}
-use Rattle.etp_items.specs.Words.{words_of, is_word}
+use Rattle.etp_words.specs.Words.{words_of, is_word, are_blank}
 use Rattle.etp_print.specs.Texts.{Reply, silent, answered, refused, refused_file}
 use Rattle.etp_print.specs.RefusalTexts.{body_refusal, file_refusal}
 use Rattle.etp_desk.specs.States.{Opened, Filing, State, over, filing}

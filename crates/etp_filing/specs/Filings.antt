@@ -2,9 +2,8 @@
 use Rattle.std.specs.Prelude.{◌≡◌, ℕ, List, [], ◌∷◌, ◌++◌, Bool, true, false, length, if◌then◌else◌, Some}
 use Rattle.etp_io.specs.Texts.{LineText, whole, too_long}
 use Rattle.etp_theory.specs.Reach.{Fact, implies}
-use Rattle.etp_replay.specs.Names.{IsName}
-use Rattle.etp_items.specs.Words.{words_of}
-use Rattle.etp_items.specs.BodyLines.{are_blank}
+use Rattle.etp_proof.specs.Names.{IsName}
+use Rattle.etp_words.specs.Words.{words_of, are_blank}
 use Rattle.etp_items.specs.Work.{HasRead}
 use Rattle.etp_items.specs.declared.reader.BodyReader.{BodyReader}
 use Rattle.etp_ledger.specs.Files.{File, Stands}
@@ -23,7 +22,7 @@ use Rattle.etp_filing.specs.declared.accepting.Said.{Said}
 pub record IsReading (o : Opened) (name : List ℕ) (reader : BodyReader) (g : States.Filing) : Type 0 where
   pub free : HasFreeName o.ledger.files g.word name
   pub read : HasRead reader g.lines
-  pub count : reader.count ≡ length o.laws.equations
+  pub count : reader.tally.count ≡ length o.laws.equations
   pub built : names_unbuilt g.lines ≡ false
 
 abbrev pub IsPending : Opened → Pending → States.Filing → Type 0

@@ -1,6 +1,6 @@
 -- The reply to taking a file out.
 use Rattle.std.specs.Prelude.{◌≡◌, ℕ, List, [], ◌∷◌, ◌++◌, Bool, true, codes, slice_get, None, Some}
-use Rattle.etp_replay.specs.Names.{IsName}
+use Rattle.etp_proof.specs.Names.{IsName}
 use Rattle.etp_ledger.specs.Files.{File, Stands, body_named}
 use Rattle.etp_ledger.specs.Withdrawing.{IsWithdrawn, IsFirstCiting}
 use Rattle.etp_print.specs.Texts.{Reply, answered, refused, reply_text}

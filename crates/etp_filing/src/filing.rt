@@ -2,8 +2,8 @@
 ghost use Rattle.std.specs.Prelude.{◌≡◌, ◌≤◌, ◌∷◌, [], ℕ, List, Some, Bool, true, false, length, IfOk, IfSome, MatchBool};
 ghost use Rattle.std.specs.Option.{option_copied};
 ghost use Rattle.std.specs.List.{list_any};
-ghost use Rattle.etp_items.specs.Words.{is_word};
-ghost use Rattle.etp_items.specs.Reading.{given_text};
+ghost use Rattle.etp_words.specs.Words.{is_word};
+ghost use Rattle.etp_reading.specs.Reading.{given_text};
 ghost use Rattle.etp_desk.specs.States.{Filing as FilingOf};
 ghost use Rattle.etp_desk.specs.Desks.{Agrees};
 ghost use Rattle.etp_filing.specs.FileReplies.{closes_body, unbuilt_kinds, HasFreeName};
@@ -11,7 +11,8 @@ ghost use Rattle.etp_filing.specs.Filings.{begins_as, with_line, loading, IsPend
 
 use etp_command::only_word;
 use etp_desk::Opened;
-use etp_items::{BodyReader, is, is_comment, next_word};
+use etp_items::BodyReader;
+use etp_words::{is, is_comment, next_word};
 use etp_ledger::Name;
 use std::alloc::{AllocError, Global};
 

@@ -1,6 +1,6 @@
 // The reply to taking a file out.
 ghost use Rattle.std.specs.Prelude.{◌≡◌, ◌↔◌, IsTrue, ◌<◌, ◌++◌, ◌∷◌, [], IfOk, OnOk, length, codes};
-ghost use Rattle.etp_replay.specs.Names.{IsName};
+ghost use Rattle.etp_proof.specs.Names.{IsName};
 ghost use Rattle.etp_print.specs.Given.{GivesThen};
 ghost use Rattle.etp_desk.specs.Desks.{Agrees, Leaves};
 ghost use Rattle.etp_filing.specs.Withdrawals.{WithdrawReply, RefusesCited};

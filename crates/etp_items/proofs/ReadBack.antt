@@ -9,14 +9,12 @@ use Rattle.std.proofs.lemmas.Fmt.{digits_decimal, digits_value-decimal, length-d
 use Rattle.std.proofs.lemmas.Str.Parse.{IsNumeralModel, numerals_by_fold}
 use Rattle.etp_theory.specs.Positions.{Side, to_left, to_right}
 use Rattle.etp_theory.specs.Proofs.{ProofStep}
-use Rattle.etp_replay.specs.Names.{IsNameByte, IsName}
-use Rattle.etp_text.specs.Grammar.{is_blank}
-use Rattle.etp_text.specs.Machine.{skip_blanks}
-use Rattle.etp_items.specs.Words.{words_of, skip_word, behind_word}
-use Rattle.etp_items.specs.Numbers.{is_digit, value_after, number_of}
-use Rattle.etp_items.specs.BodyLines.{reference_of, reversed_of, side_then, sides_of, position_named}
+use Rattle.etp_proof.specs.Names.{IsNameByte, IsName}
+use Rattle.etp_words.specs.Words.{is_blank, skip_blanks, words_of, skip_word, behind_word}
+use Rattle.etp_words.specs.Numbers.{is_digit, value_after, number_of}
+use Rattle.etp_items.specs.ProofLines.{reference_of, reversed_of, side_then, sides_of, position_named}
 use Rattle.etp_items.specs.Written.{reference_word, direction_word, side_letter, position_word}
-use Rattle.etp_items.proofs.WordLemmas.{words_of-append}
+use Rattle.etp_words.proofs.WordLemmas.{words_of-append}
 
 own : IsNumeralModel (λ ds. list_all is_digit ds ≡ true) (value_after 0)
 own = numerals_by_fold _ (search rules) value_after (search rules)

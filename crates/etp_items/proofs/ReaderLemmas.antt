@@ -1,117 +1,139 @@
 -- A reader with one line more, and at its end.
-use Rattle.std.proofs.Common.{◌≡◌, ℕ, ◌+◌, ◌<◌, ◌≤◌, min, arith, Bool, true, false, ◌&&◌, List, [], ◌∷◌, ◌++◌, length, take, All, refl, sym, subst, ◌∙◌, Option, Some, None, length-append}
-use Rattle.std.proofs.lemmas.List.{take_all}
-use Rattle.std.proofs.lemmas.List.Elements.{All-head}
-use Rattle.etp_io.specs.Texts.{LineText}
-use Rattle.etp_items.specs.Bodies.{FileBody, proof}
-use Rattle.etp_items.specs.BodyLines.{Line}
-use Rattle.etp_items.specs.Reading.{Place, opening, Reads, line_limit, lines_said, numbers_of, body_numbers, is_complete, IsBody, IsListed, AreListed, IsFirstUnlisted, IsUnfinished, IsUnknownLaw, IsReadBody, HasNoPlace}
-use Rattle.etp_items.specs.Work.{place_of, said_by, KnowsListed, HasGoodLines, HasFound, HasRead, KeepsCounts, IsWhole}
+use Rattle.std.proofs.Common.{◌≡◌, ℕ, ◌+◌, ◌<◌, ◌≤◌, Bool, true, false, ◌&&◌, List, [], ◌∷◌, ◌++◌, map, refl, sym, ap, subst, ◌∙◌, Option, Some, None, IfOk, Result, Ok, Err}
+use Rattle.std.specs.Option.{option_map, is_some}
+use Rattle.etp_io.specs.Texts.{LineText, whole}
+use Rattle.etp_words.specs.Words.{IsBlankLine}
+use Rattle.etp_reading.specs.Reading.{AreRead, Refuses, HasNoPlace, line_limit}
+use Rattle.etp_reading.specs.Tallies.{Judges, lines_then, unlisted_then}
+use Rattle.etp_reading.specs.declared.tally.Tally.{Tally}
+use Rattle.etp_reading.specs.declared.refusal.BodyRefusal.{BodyRefusal}
+use Rattle.etp_reading.specs.declared.refusal.BodyRefusal.TheVariants.{BadLine, UnknownLaw, TooManyLines, Unfinished}
+use Rattle.etp_reading.proofs.Theorems.{tally_theorems}
+use Rattle.etp_items.specs.ProofLines.{ProofLine}
+use Rattle.etp_items.specs.BodyLines.{Line, Place, in_proof, proof_line, after, is_complete, bodies}
+use Rattle.etp_items.specs.Bodies.{FileBody}
+use Rattle.etp_items.specs.Reading.{IsReadBody}
+use Rattle.etp_items.specs.Work.{proof_place, proof_said, OpensProof, TakesInProof, HasCome, GoesOn, Takes, IsWhole, TakesLine, HasRead}
+use Rattle.etp_items.specs.declared.proof.work.ProofWork.{ProofWork}
+use Rattle.etp_items.specs.declared.work.Work.{Work}
+use Rattle.etp_items.specs.declared.work.Work.TheVariants.{Opening, Proof}
 use Rattle.etp_items.specs.declared.reader.BodyReader.{BodyReader}
-use Rattle.etp_items.specs.declared.reader.Unlisted.{Unlisted}
-use Rattle.etp_items.proofs.ReadingLemmas.{more_reads, more_knows, bad_stays}
+use Rattle.etp_items.proofs.OneLine.{one}
 
-counted_next : (xs : List LineText) (x : LineText) (n : ℕ) → n ≡ min (length xs) (line_limit + 1) → min n line_limit + 1 ≡ min (length (xs ++ x ∷ [])) (line_limit + 1)
-counted_next xs x n e = omega (arith, length-append xs (x ∷ []))
+map_end : {A B : Type 0} (f : A → B) (xs : List A) (x : A) → map f (xs ++ x ∷ []) ≡ map f xs ++ f x ∷ []
+map_end f [] x = refl
+map_end f (y ∷ ys) x = ap (λ zs. f y ∷ zs) (map_end f ys x)
 
-abbrev pub counted : BodyReader → BodyReader
-counted r = record r { lines = min r.lines line_limit + 1 }
-
-skipped : (r : BodyReader) (xs : List LineText) (x : LineText) (bad : Option ℕ) → (bad ≡ None → line_limit ≤ length xs) → HasFound r xs bad → HasFound (counted r) (xs ++ x ∷ []) bad
-skipped r xs x None many good = record {
-  reads = more_reads line_limit opening (place_of r.work) xs x (said_by r.work) (many refl) good.reads;
-  listed = more_knows line_limit r.count xs x (said_by r.work) r.unlisted (many refl) good.listed;
+-- a proof goes on as its work does
+pub proof_takes : (old new : ProofWork) (said : ProofLine) (taken : Bool) → TakesInProof old said new taken → Takes (Proof old) (proof_line said) (Proof new) taken
+proof_takes old new said true t = λ place saids h. record {
+  next = in_proof (proof_place new);
+  stands = ap (λ (z : Place). after z (proof_line said)) h.0 ∙ ap (option_map in_proof) t.0;
+  come = (refl, ap (λ z. z ++ proof_line said ∷ []) h.1 ∙ sym (ap (map proof_line) t.1 ∙ map_end proof_line (proof_said old) said));
 }
-skipped r xs x (Some k) many bad = bad_stays xs x k bad
+proof_takes old new said false t = λ place saids h. ap (λ (z : Place). after z (proof_line said)) h.0 ∙ ap (option_map in_proof) t
 
-pub pushed_skipped : (r : BodyReader) (xs : List LineText) (x : LineText) → HasRead r xs → (r.bad ≡ None → line_limit ≤ r.lines) → HasRead (counted r) (xs ++ x ∷ [])
-pushed_skipped r xs x h many = record {
-  counted = counted_next xs x r.lines h.counted;
-  found = skipped r xs x r.bad (λ e. let m : line_limit ≤ r.lines = many e in omega (arith, h.counted, m)) h.found;
-}
+pub proof_takes_ok : {E : Type 0} (old new : ProofWork) (said : ProofLine) (r : Result Bool E) → IfOk r (TakesInProof old said new) → IfOk r (Takes (Proof old) (proof_line said) (Proof new))
+proof_takes_ok old new said (Ok taken) t = proof_takes old new said taken t
+proof_takes_ok old new said (Err e) t = tt
 
-found_none : (r : BodyReader) (xs : List LineText) (bad : Option ℕ) → bad ≡ None → HasFound r xs bad → HasGoodLines r xs
-found_none r xs bad e h = subst (HasFound r xs) e h
-
-pub good_lines : (r : BodyReader) (xs : List LineText) → HasRead r xs → r.bad ≡ None → HasGoodLines r xs
-good_lines r xs h e = found_none r xs r.bad e h.found
-
-pub few_lines : (r : BodyReader) (xs : List LineText) → HasRead r xs → r.lines ≤ line_limit → length xs ≡ r.lines
-few_lines r xs h few = omega (arith, h.counted)
-
-pub pushed_good : (r m : BodyReader) (xs : List LineText) (x : LineText) → HasRead r xs → r.bad ≡ None → KeepsCounts r m → HasGoodLines m (xs ++ x ∷ []) → HasRead (counted m) (xs ++ x ∷ [])
-pushed_good r m xs x h none keeps good = record {
-  counted = counted_next xs x m.lines (keeps.lines ∙ h.counted);
-  found = subst (HasFound (counted m) (xs ++ x ∷ [])) (sym (keeps.bad ∙ none)) (record { reads = good.reads; listed = good.listed });
-}
-
-within_limit : (r : BodyReader) (xs : List LineText) → HasGoodLines r xs → length xs ≤ line_limit → Reads opening xs (said_by r.work) (place_of r.work)
-within_limit r xs good few = subst (λ (ys : List LineText). Reads opening ys (said_by r.work) (place_of r.work)) (take_all line_limit xs few) good.reads
-
-pub pushed_bad : (r m : BodyReader) (xs : List LineText) (x : LineText) → HasRead r xs → r.bad ≡ None → r.lines < line_limit → KeepsCounts r m → HasNoPlace (place_of r.work) x
-    → HasRead (record m { lines = min m.lines line_limit + 1; bad = Some (min m.lines line_limit + 1) }) (xs ++ x ∷ [])
-pushed_bad r m xs x h none few keeps bad =
-    let same : m.lines ≡ r.lines = keeps.lines in
-    let long : length xs ≡ r.lines = few_lines r xs h (omega arith) in
+pub proof_opens : (old : Work) (said : ProofLine) (w : ProofWork) → old ≡ Opening → OpensProof said (Some w) → Takes old (proof_line said) (Proof w) true
+proof_opens old said w o t place saids h =
+    let k : HasCome Opening place saids = subst (λ (z : Work). HasCome z place saids) o h in
     record {
-      counted = counted_next xs x m.lines (same ∙ h.counted);
-      found = record {
-        before = xs;
-        line = x;
-        behind = [];
-        whole = refl;
-        place = omega arith;
-        few = omega arith;
-        saids = said_by r.work;
-        come = place_of r.work;
-        reads = within_limit r xs (good_lines r xs h none) (omega arith);
-        bad = bad;
-      };
+      next = in_proof (proof_place w);
+      stands = ap (λ (z : Place). after z (proof_line said)) k.0 ∙ t.0;
+      come = (refl, ap (λ z. z ++ proof_line said ∷ []) k.1 ∙ sym (ap (map proof_line) t.1));
     }
 
-pub ends_open : (r : BodyReader) (xs : List LineText) (closed : Bool) → HasRead r xs → r.bad ≡ None → r.lines ≤ line_limit → (closed && is_complete (place_of r.work)) ≡ false → IsUnfinished xs closed (r.lines + 1)
-ends_open r xs closed h none few open_end =
-    let long : length xs ≡ r.lines = few_lines r xs h few in
+pub proof_shut : (old : Work) (said : ProofLine) → old ≡ Opening → OpensProof said None → Takes old (proof_line said) old false
+proof_shut old said o t place saids h =
+    let k : HasCome Opening place saids = subst (λ (z : Work). HasCome z place saids) o h in
+    ap (λ (z : Place). after z (proof_line said)) k.0 ∙ t
+
+-- one line more
+pub pushed_counted : (r : BodyReader) (xs : List LineText) (x : LineText) → HasRead r xs → (r.tally.bad ≡ None → line_limit ≤ r.tally.lines)
+    → HasRead (record r { tally = record r.tally { lines = lines_then r.tally.lines } }) (xs ++ x ∷ [])
+pushed_counted r xs x h many = record {
+  place = h.place;
+  saids = h.saids;
+  tallied = (tally_theorems bodies one).skipped r.tally h.saids h.place xs x h.tallied many;
+  come = h.come;
+}
+
+pub pushed_blank : (r n : BodyReader) (xs : List LineText) (x : LineText) (bytes : List ℕ) → HasRead r xs → r.tally.bad ≡ None → r.tally.lines < line_limit
+    → x ≡ whole bytes → IsBlankLine bytes → n.work ≡ r.work → n.tally ≡ r.tally
+    → HasRead (record n { tally = record n.tally { lines = lines_then n.tally.lines } }) (xs ++ x ∷ [])
+pushed_blank r n xs x bytes h good few e blank same kept = rw (e, same, kept) (record {
+  place = h.place;
+  saids = h.saids;
+  tallied = (tally_theorems bodies one).blank r.tally h.saids h.place xs bytes h.tallied good few blank;
+  come = h.come;
+})
+
+some_none : {A : Type 0} (a : A) → Some a ≡ None → ⊥
+some_none a e = cc
+
+pub pushed_bad : (r n : BodyReader) (xs : List LineText) (x : LineText) → HasRead r xs → r.tally.bad ≡ None → r.tally.lines < line_limit
+    → ((place : Place) (saids : List Line) → HasCome r.work place saids → HasNoPlace bodies place x) → n.tally ≡ r.tally
+    → HasRead (record n { tally = record n.tally { lines = lines_then n.tally.lines; bad = Some (lines_then n.tally.lines) } }) (xs ++ x ∷ [])
+pushed_bad r n xs x h good few none kept = rw kept (record {
+  place = h.place;
+  saids = h.saids;
+  tallied = (tally_theorems bodies one).bad r.tally h.saids h.saids h.place h.place xs x h.tallied good few (none h.place h.saids (h.come good));
+  come = λ e. absurd (some_none (lines_then r.tally.lines) e);
+})
+
+pub pushed_taken : (r n : BodyReader) (xs : List LineText) (x : LineText) (bytes : List ℕ) (number : Option ℕ) → HasRead r xs → r.tally.bad ≡ None → r.tally.lines < line_limit
+    → x ≡ whole bytes → TakesLine r.tally.count r.work n.work bytes number → n.tally ≡ r.tally
+    → HasRead (record n { tally = record n.tally { lines = lines_then n.tally.lines; unlisted = unlisted_then n.tally.unlisted number (n.tally.lines + 1) } }) (xs ++ x ∷ [])
+pushed_taken r n xs x bytes number h good few e t kept =
+    let on : GoesOn r.work n.work t.said h.place h.saids = t.takes h.place h.saids (h.come good) in
+    rw (e, kept) (record {
+      place = on.next;
+      saids = h.saids ++ t.said ∷ [];
+      tallied = (tally_theorems bodies one).said r.tally h.saids (h.saids ++ t.said ∷ []) h.place on.next xs bytes t.said number h.tallied good few t.says on.stands refl t.numbers;
+      come = λ none. on.come;
+    })
+
+-- a line that says nothing has no place
+pub nothing_said : (place : Place) (bytes : List ℕ) → (IsBlankLine bytes → ⊥) → ((l : Line) → bodies.Says bytes l → ⊥) → HasNoPlace bodies place (whole bytes)
+nothing_said place bytes blank none = (blank, λ l s. absurd (none l s))
+
+pub no_place : (work : Work) (bytes : List ℕ) (said : Line) (new : Work) → bodies.Says bytes said → Takes work said new false
+    → (place : Place) (saids : List Line) → HasCome work place saids → HasNoPlace bodies place (whole bytes)
+no_place work bytes said new says t place saids h = (tally_theorems bodies one).no_place place bytes said says (t place saids h)
+
+pub some_mapped : {A B : Type 0} (f : A → B) (o : Option A) → is_some (option_map f o) ≡ is_some o
+some_mapped f None = refl
+some_mapped f (Some a) = refl
+
+whole_place : (work : Work) (body : Option FileBody) (place : Place) (saids : List Line) → IsWhole work body → HasCome work place saids → is_complete place ≡ is_some body
+whole_place work None place saids w h = w place saids h
+whole_place work (Some b) place saids w h = (w place saids h).0
+
+judges : (t : Tally) (closed b d : Bool) (refusal : BodyRefusal) → (t.bad ≡ None → d ≡ b) → Judges t closed b (Some refusal) → Judges t closed d (Some refusal)
+judges t closed b d (BadLine line) e j = j
+judges t closed b d (TooManyLines line) e j = j
+judges t closed b d (Unfinished line) e j = (j.0, ap (λ z. closed && z) (e j.0.0) ∙ j.1, j.2)
+judges t closed b d (UnknownLaw line number) e j = (j.0, ap (λ z. closed && z) (e j.0.0) ∙ j.1, j.2)
+
+-- at the end
+pub ends_refused : (r : BodyReader) (xs : List LineText) (closed : Bool) (body : Option FileBody) (refusal : BodyRefusal) → HasRead r xs → IsWhole r.work body
+    → Judges r.tally closed (is_some body) (Some refusal) → Refuses bodies r.tally.count xs closed refusal
+ends_refused r xs closed body refusal h w j =
+    (tally_theorems bodies one).judged r.tally h.saids h.place xs closed (Some refusal) h.tallied
+    (judges r.tally closed (is_some body) (is_complete h.place) refusal (λ e. whole_place r.work body h.place h.saids w (h.come e)) j)
+
+pub ends_whole : (r : BodyReader) (xs : List LineText) (closed : Bool) (body : FileBody) → HasRead r xs → IsWhole r.work (Some body)
+    → Judges r.tally closed true None → IsReadBody r.tally.count xs closed body
+ends_whole r xs closed body h w j =
+    let on = w h.place h.saids (h.come j.0.0) in
+    let read : AreRead bodies r.tally.count xs closed h.saids =
+    (tally_theorems bodies one).judged r.tally h.saids h.place xs closed None h.tallied (j.0, ap (λ z. closed && z) on.0 ∙ j.1, j.2) in
     record {
-      few = omega arith;
-      next = omega arith;
-      saids = said_by r.work;
-      come = place_of r.work;
-      reads = within_limit r xs (good_lines r xs h none) (omega arith);
-      open_end = open_end;
-    }
-
-whole_body : (xs : List LineText) (saids : List Line) (place : Place) (body : FileBody) → IsWhole place saids body → Reads opening xs saids place → IsBody xs body
-whole_body xs saids place (proof p) whole reads =
-    (whole.0, subst (λ (q : Place). Reads opening xs (lines_said whole.0 p) q) whole.1 (subst (λ (s : List Line). Reads opening xs s place) whole.2 reads))
-
-whole_listed : (count : ℕ) (saids : List Line) (place : Place) (body : FileBody) → IsWhole place saids body → AreListed count saids → All (IsListed count) (body_numbers body)
-whole_listed count saids place (proof p) whole listed =
-    let first : AreListed count (lines_said whole.0 p) = subst (AreListed count) whole.2 listed in
-    All-head (λ l. All (IsListed count) (numbers_of l)) _ _ first
-
-pub ends_whole : (r : BodyReader) (xs : List LineText) (closed : Bool) (body : FileBody) → HasRead r xs → r.bad ≡ None → r.lines ≤ line_limit → closed ≡ true → IsWhole (place_of r.work) (said_by r.work) body → r.unlisted ≡ None
-    → IsReadBody r.count xs closed body
-ends_whole r xs closed body h none few is_closed whole listed =
-    let long : length xs ≡ r.lines = few_lines r xs h few in
-    let good : HasGoodLines r xs = good_lines r xs h none in
-    record {
-      is_closed = is_closed;
-      few = omega arith;
-      is_body = whole_body xs (said_by r.work) (place_of r.work) body whole (within_limit r xs good (omega arith));
-      listed = whole_listed r.count (said_by r.work) (place_of r.work) body whole (subst (KnowsListed r.count (take line_limit xs) (said_by r.work)) listed good.listed);
-    }
-
-pub ends_unlisted : (r : BodyReader) (xs : List LineText) (closed : Bool) (body : FileBody) (u : Unlisted) → HasRead r xs → r.bad ≡ None → r.lines ≤ line_limit → closed ≡ true → IsWhole (place_of r.work) (said_by r.work) body
-    → r.unlisted ≡ Some u → IsUnknownLaw r.count xs closed u.line u.number
-ends_unlisted r xs closed body u h none few is_closed whole unlisted =
-    let long : length xs ≡ r.lines = few_lines r xs h few in
-    let good : HasGoodLines r xs = good_lines r xs h none in
-    let known : IsFirstUnlisted r.count (take line_limit xs) u.line u.number = subst (KnowsListed r.count (take line_limit xs) (said_by r.work)) unlisted good.listed in
-    record {
-      is_closed = is_closed;
-      few = omega arith;
-      body = body;
-      is_body = whole_body xs (said_by r.work) (place_of r.work) body whole (within_limit r xs good (omega arith));
-      first = subst (λ (ys : List LineText). IsFirstUnlisted r.count ys u.line u.number) (take_all line_limit xs (omega arith)) known;
+      is_closed = read.is_closed;
+      few = read.few;
+      is_body = record { saids = h.saids; are_whole = read.are_whole; says = on.1 };
+      listed = read.listed;
     }

@@ -9,11 +9,11 @@ use Rattle.etp_theory.specs.Proofs.{ProofStep, Lemma, conclusion, AreRightSteps,
 use Rattle.etp_text.specs.Written.{written_term}
 use Rattle.etp_text.specs.Refusals.{side_limit}
 use Rattle.etp_text.proofs.Lengths.{written_term_short}
-use Rattle.etp_replay.specs.Names.{IsName}
+use Rattle.etp_proof.specs.Names.{IsName}
 use Rattle.etp_items.specs.Bodies.{ProofBody, proof}
-use Rattle.etp_items.specs.BodyLines.{Version, plain, citing, version_word, Line, heading, cite, lemma, step}
-use Rattle.etp_items.specs.Reading.{lemma_lines, lines_said}
-use Rattle.etp_items.specs.Written.{reference_word, direction_word, side_letter, position_word, version_for, IsWritable, IsShort, IsWritableBody, IsShortBody}
+use Rattle.etp_items.specs.ProofLines.{Version, plain, citing, version_word, ProofLine, heading, cite, lemma, step}
+use Rattle.etp_items.specs.Reading.{lemma_lines, proof_lines}
+use Rattle.etp_items.specs.Written.{reference_word, direction_word, side_letter, position_word, version_for, IsWritableProofLine, IsShortProofLine, IsWritableBody, IsShortBody}
 
 some_leaves : (t : Tree) → 0 < leaves t
 some_leaves (var v) = omega arith
@@ -60,7 +60,7 @@ position_length (side ∷ sides) = omega (arith, letters_length sides)
 spaced_length : (v w : List ℕ) → length (v ++ 32 ∷ w) ≡ length v + length w + 1
 spaced_length v w = omega (arith, length-append v (32 ∷ w))
 
-heading_short : (v : Version) (e f : ℕ) → e < 2 ^ 32 → f < 2 ^ 32 → IsShort (heading v e f)
+heading_short : (v : Version) (e f : ℕ) → e < 2 ^ 32 → f < 2 ^ 32 → IsShortProofLine (heading v e f)
 heading_short v e f h k =
     omega (
       arith,
@@ -71,13 +71,13 @@ heading_short v e f h k =
       spaced_length (decimal e) (decimal f),
     )
 
-cite_short : (name : List ℕ) → IsName name → IsShort (cite name)
+cite_short : (name : List ℕ) → IsName name → IsShortProofLine (cite name)
 cite_short name h = omega (arith, h.short)
 
-lemma_short : (t : Tree) → bound t ≤ 64 → leaves t ≤ side_limit → IsShort (lemma t)
+lemma_short : (t : Tree) → bound t ≤ 64 → leaves t ≤ side_limit → IsShortProofLine (lemma t)
 lemma_short t named few = omega (arith, written_term_short t named)
 
-step_short : (x : ProofStep) → x.line < 2 ^ 32 → bound x.to ≤ 64 → leaves x.to ≤ side_limit → length x.position < leaves x.to → IsShort (step x)
+step_short : (x : ProofStep) → x.line < 2 ^ 32 → bound x.to ≤ 64 → leaves x.to ≤ side_limit → length x.position < leaves x.to → IsShortProofLine (step x)
 step_short x line named few within =
     let r = reference_word x in
     let d = direction_word x.reversed in
@@ -95,9 +95,9 @@ step_short x line named few within =
     )
 
 -- the steps of a valid proof, and what follows them
-steps_short : (hypothesis : Equation) (cites earlier : List Equation) (s : Tree) (xs : List ProofStep) (ls : List Line)
-    → AreRightSteps hypothesis cites earlier s xs → AllByRecursion IsWritable (map step xs ++ ls)
-    → (AllByRecursion IsWritable ls → AllByRecursion IsShort ls) → AllByRecursion IsShort (map step xs ++ ls)
+steps_short : (hypothesis : Equation) (cites earlier : List Equation) (s : Tree) (xs : List ProofStep) (ls : List ProofLine)
+    → AreRightSteps hypothesis cites earlier s xs → AllByRecursion IsWritableProofLine (map step xs ++ ls)
+    → (AllByRecursion IsWritableProofLine ls → AllByRecursion IsShortProofLine ls) → AllByRecursion IsShortProofLine (map step xs ++ ls)
 steps_short hypothesis cites earlier s [] ls right h on = on h
 steps_short hypothesis cites earlier s (x ∷ xs) ls right h on = (
   step_short x h.0.0 h.0.1 h.0.2 (position_within x.position x.to _ right.0.right.after),
@@ -105,7 +105,7 @@ steps_short hypothesis cites earlier s (x ∷ xs) ls right h on = (
 )
 
 lemmas_short : (hypothesis : Equation) (cites earlier : List Equation) (ls : List Lemma)
-    → AreRightLemmas hypothesis cites earlier ls → AllByRecursion IsWritable (lemma_lines ls) → AllByRecursion IsShort (lemma_lines ls)
+    → AreRightLemmas hypothesis cites earlier ls → AllByRecursion IsWritableProofLine (lemma_lines ls) → AllByRecursion IsShortProofLine (lemma_lines ls)
 lemmas_short hypothesis cites earlier [] right h = tt
 lemmas_short hypothesis cites earlier (l ∷ ls) right h = (
   lemma_short l.start h.0.0 h.0.1,
@@ -113,8 +113,8 @@ lemmas_short hypothesis cites earlier (l ∷ ls) right h = (
       (λ k. lemmas_short hypothesis cites (earlier ++ (conclusion l ∷ [])) ls right.1 k),
 )
 
-cites_short : (names : List (List ℕ)) (ls : List Line) → AllByRecursion IsWritable (map cite names ++ ls)
-    → (AllByRecursion IsWritable ls → AllByRecursion IsShort ls) → AllByRecursion IsShort (map cite names ++ ls)
+cites_short : (names : List (List ℕ)) (ls : List ProofLine) → AllByRecursion IsWritableProofLine (map cite names ++ ls)
+    → (AllByRecursion IsWritableProofLine ls → AllByRecursion IsShortProofLine ls) → AllByRecursion IsShortProofLine (map cite names ++ ls)
 cites_short [] ls h on = on h
 cites_short (name ∷ names) ls h on = (cite_short name h.0, cites_short names ls h.1 on)
 
@@ -122,8 +122,8 @@ pub valid_body_short : (hypothesis goal : Equation) (cites : List Equation) (p :
     → IsValidProof hypothesis goal cites p.lemmas → IsWritableBody (proof p) → IsShortBody (proof p)
 valid_body_short hypothesis goal cites p valid (some, few, writable) =
     let v = version_for p in
-    let all : AllByRecursion IsWritable (lines_said v p) = recursion_from_All IsWritable (lines_said v p) writable in
-    All-from_recursion IsShort (lines_said v p) (
+    let all : AllByRecursion IsWritableProofLine (proof_lines v p) = recursion_from_All IsWritableProofLine (proof_lines v p) writable in
+    All-from_recursion IsShortProofLine (proof_lines v p) (
       heading_short v p.hypothesis p.goal all.0.0 all.0.1,
       cites_short p.cites (lemma_lines p.lemmas) all.1 (λ k. lemmas_short hypothesis cites [] p.lemmas valid.right k),
     )

@@ -5,7 +5,7 @@ use Rattle.std.proofs.Math.Seq.{drop-cons, drop-length}
 use Rattle.etp_theory.specs.Positions.{Side}
 use Rattle.etp_term.specs.Sides as Program
 use Rattle.etp_term.specs.declared.position.Side as Declared
-use Rattle.etp_items.specs.BodyLines.{side_of, side_then, sides_of}
+use Rattle.etp_items.specs.ProofLines.{side_of, side_then, sides_of}
 
 pub map_end : {A B : Type 0} (f : A → B) (xs : List A) (x : A) → map f (xs ++ x ∷ []) ≡ map f xs ++ f x ∷ []
 map_end f [] x = refl

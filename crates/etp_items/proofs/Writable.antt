@@ -8,11 +8,13 @@ use Rattle.etp_theory.specs.Trees.{Tree, bound}
 use Rattle.etp_theory.specs.Proofs.{Lemma}
 use Rattle.etp_text.specs.Grammar.{Begins, IsAtom, IsSide, variable, enclosed, alone, joined, SpellsTerm}
 use Rattle.etp_io.specs.Texts.{LineText, whole, too_long}
-use Rattle.etp_items.specs.Numbers.{is_digit, value_after, is_number, number_of}
+use Rattle.etp_words.specs.Numbers.{is_digit, value_after, is_number, number_of}
 use Rattle.etp_items.specs.Bodies.{FileBody, proof}
-use Rattle.etp_items.specs.BodyLines.{Version, plain, citing, Line, heading, cite, lemma, step, Says, reference_of}
-use Rattle.etp_items.specs.Reading.{Place, opening, headed, within, after, Reads, cite_limit, lemma_lines, lines_said, IsBody}
-use Rattle.etp_items.specs.Written.{IsWritable, IsWritableBody, version_for}
+use Rattle.etp_reading.specs.Reading.{Reads}
+use Rattle.etp_items.specs.ProofLines.{Version, plain, citing, ProofLine, heading, cite, lemma, step, SaysProofLine, reference_of, headed, cite_limit}
+use Rattle.etp_items.specs.BodyLines.{Line, of_proofs, Place, opening, in_proof, proof_line, Says, after, is_complete, bodies}
+use Rattle.etp_items.specs.Reading.{lemma_lines, proof_lines, IsBody}
+use Rattle.etp_items.specs.Written.{IsWritable, IsWritableProofLine, IsWritableBody, version_for}
 use Rattle.etp_items.proofs.ReadBack.{both}
 
 begins_split : (bytes : List ℕ) (ts us : List _) (rest : List ℕ) → Begins bytes (ts ++ us) rest → (middle : List ℕ) × Begins bytes ts middle × Begins middle us rest
@@ -70,93 +72,115 @@ reference_fits [] m d e = absurd (cc)
 reference_fits (b ∷ bytes) m d e = reference_then (nat_eq b 99) b bytes m d e
 
 -- what a line says can be written
-says_writable : (line : List ℕ) (l : Line) → Says line l → IsWritable l
-says_writable line (heading v e f) s = (number_fits s.first e s.from, number_fits s.second f s.to)
-says_writable line (cite name) s = s.named
-says_writable line (lemma t) s = (term_named _ t s.term.spelled, s.term.small)
-says_writable line (step x) s = (reference_fits s.reference x.line x.cited s.by, term_named _ x.to s.term.spelled, s.term.small)
+proof_line_writable : (line : List ℕ) (l : ProofLine) → SaysProofLine line l → IsWritableProofLine l
+proof_line_writable line (heading v e f) s = (number_fits s.first e s.from, number_fits s.second f s.to)
+proof_line_writable line (cite name) s = s.named
+proof_line_writable line (lemma t) s = (term_named _ t s.term.spelled, s.term.small)
+proof_line_writable line (step x) s = (reference_fits s.reference x.line x.cited s.by, term_named _ x.to s.term.spelled, s.term.small)
 
-reads_writable : (p q : Place) (xs : List LineText) (saids : List Line) → Reads p xs saids q → AllByRecursion IsWritable saids
+says_writable : (line : List ℕ) (l : Line) → Says line l → IsWritable l
+says_writable line (of_proofs, l) s = proof_line_writable line l s
+
+reads_writable : (p q : Place) (xs : List LineText) (saids : List Line) → Reads bodies p xs saids q → AllByRecursion IsWritable saids
 reads_writable p q [] saids h = subst (AllByRecursion IsWritable) (sym h.0) tt
 reads_writable p q (too_long ∷ xs) saids h = absurd h
 reads_writable p q (whole line ∷ xs) saids (inl h) = reads_writable p q xs saids h.1
 reads_writable p q (whole line ∷ xs) saids (inr (said, next, more, says, a, h, e)) =
     subst (AllByRecursion IsWritable) (sym e) (says_writable line said says, reads_writable next q xs more h)
 
+proof_writable : (ls : List ProofLine) → AllByRecursion IsWritable (map proof_line ls) → AllByRecursion IsWritableProofLine ls
+proof_writable [] h = tt
+proof_writable (l ∷ ls) h = (h.0, proof_writable ls h.1)
+
 -- behind the heading
-pub record Behind (v : Version) (saids : List Line) (q : Place) : Type 0 where
+pub record Behind (v : Version) (saids : List ProofLine) (q : Place) : Type 0 where
   pub lines : List LineText
-  pub reads : Reads (headed v 0) lines saids q
+  pub reads : Reads bodies (in_proof (headed v 0)) lines (map proof_line saids) q
 
 none_some : {A : Type 0} (a : A) → None ≡ Some a → ⊥
 none_some a e = cc
 
-behind_heading : (xs : List LineText) (v : Version) (e f : ℕ) (saids : List Line) (q : Place) → Reads opening xs (heading v e f ∷ saids) q → Behind v saids q
-behind_heading [] v e f saids q h = absurd (let k = h.0 in cc)
+same_head : (l m : Line) (ls ms : List Line) → Path (List Line) (l ∷ ls) (m ∷ ms) → l ≡ m
+same_head l m ls ms e = cc
+
+same_tail : (l m : Line) (ls ms : List Line) → Path (List Line) (l ∷ ls) (m ∷ ms) → ls ≡ ms
+same_tail l m ls ms e = cc
+
+no_lines : (l : Line) (ls : List Line) → Path (List Line) (l ∷ ls) [] → ⊥
+no_lines l ls e = cc
+
+behind_heading : (xs : List LineText) (v : Version) (e f : ℕ) (saids : List ProofLine) (q : Place)
+    → Reads bodies opening xs (proof_line (heading v e f) ∷ map proof_line saids) q → Behind v saids q
+behind_heading [] v e f saids q h = absurd (no_lines _ _ h.0)
 behind_heading (too_long ∷ xs) v e f saids q h = absurd h
 behind_heading (whole line ∷ xs) v e f saids q (inl h) = behind_heading xs v e f saids q h.1
 behind_heading (whole line ∷ xs) v e f saids q (inr (said, next, more, says, a, h, eq)) =
-    let first : heading v e f ≡ said = cc in
-    let rest : saids ≡ more = cc in
-    let there : Some (headed v 0) ≡ Some next = ap (after opening) first ∙ a in
-    let place : headed v 0 ≡ next = cc in
+    let first = same_head (proof_line (heading v e f)) said (map proof_line saids) more eq in
+    let rest = same_tail (proof_line (heading v e f)) said (map proof_line saids) more eq in
+    let there : Some (in_proof (headed v 0)) ≡ Some next = ap (after opening) first ∙ a in
+    let place : in_proof (headed v 0) ≡ next = cc in
     record {
       lines = xs;
-      reads = subst (λ (z : Place). Reads z xs saids q) (sym place) (subst (λ (z : List Line). Reads next xs z q) (sym rest) h);
+      reads = subst (λ (z : Place). Reads bodies z xs (map proof_line saids) q) (sym place) (subst (λ (z : List Line). Reads bodies next xs z q) (sym rest) h);
     }
 
 -- a cite that stands
 pub record CiteStands (v : Version) (n : ℕ) (next : Place) : Type 0 where
   pub few : n < cite_limit
-  pub there : next ≡ headed v (n + 1)
+  pub there : next ≡ in_proof (headed v (n + 1))
 
-cite_then : (few : Bool) (n : ℕ) (next : Place) → few ≡ nat_lt n cite_limit → cond few (Some (headed citing (n + 1))) None ≡ Some next → CiteStands citing n next
-cite_then true n next e f = let k : headed citing (n + 1) ≡ next = cc in record { few = ltb-true n cite_limit (sym e); there = sym k }
+cite_then : (few : Bool) (n : ℕ) (next : Place) → few ≡ nat_lt n cite_limit → option_map in_proof (cond few (Some (headed citing (n + 1))) None) ≡ Some next → CiteStands citing n next
+cite_then true n next e f = let k : in_proof (headed citing (n + 1)) ≡ next = cc in record { few = ltb-true n cite_limit (sym e); there = sym k }
 cite_then false n next e f = absurd (none_some next f)
 
-cite_stands : (v : Version) (n : ℕ) (name : List ℕ) (next : Place) → after (headed v n) (cite name) ≡ Some next → CiteStands v n next
+cite_stands : (v : Version) (n : ℕ) (name : List ℕ) (next : Place) → after (in_proof (headed v n)) (proof_line (cite name)) ≡ Some next → CiteStands v n next
 cite_stands plain n name next e = absurd (none_some next e)
 cite_stands citing n name next e = cite_then (nat_lt n cite_limit) n next refl e
 
-few_cites : (xs : List LineText) (v : Version) (n : ℕ) (names : List (List ℕ)) (rest : List Line) (q : Place) → n ≤ cite_limit → Reads (headed v n) xs (map cite names ++ rest) q → n + length names ≤ cite_limit
+few_cites : (xs : List LineText) (v : Version) (n : ℕ) (names : List (List ℕ)) (rest : List ProofLine) (q : Place) → n ≤ cite_limit
+    → Reads bodies (in_proof (headed v n)) xs (map proof_line (map cite names ++ rest)) q → n + length names ≤ cite_limit
 few_cites xs v n [] rest q few h = omega arith
-few_cites [] v n (name ∷ names) rest q few h = absurd (let k = h.0 in cc)
+few_cites [] v n (name ∷ names) rest q few h = absurd (no_lines _ _ h.0)
 few_cites (too_long ∷ xs) v n (name ∷ names) rest q few h = absurd h
 few_cites (whole line ∷ xs) v n (name ∷ names) rest q few (inl h) = few_cites xs v n (name ∷ names) rest q few h.1
 few_cites (whole line ∷ xs) v n (name ∷ names) rest q few (inr (said, next, more, says, a, h, eq)) =
-    let first : cite name ≡ said = cc in
-    let behind : map cite names ++ rest ≡ more = cc in
-    let one = cite_stands v n name next (ap (after (headed v n)) first ∙ a) in
+    let first = same_head (proof_line (cite name)) said (map proof_line (map cite names ++ rest)) more eq in
+    let behind = same_tail (proof_line (cite name)) said (map proof_line (map cite names ++ rest)) more eq in
+    let one = cite_stands v n name next (ap (after (in_proof (headed v n))) first ∙ a) in
     let on = few_cites xs v (n + 1) names rest q (omega (arith, one.few))
-    (subst (λ (z : Place). Reads z xs (map cite names ++ rest) q) one.there (subst (λ (z : List Line). Reads next xs z q) (sym behind) h)) in
+    (subst (λ (z : Place). Reads bodies z xs (map proof_line (map cite names ++ rest)) q) one.there (subst (λ (z : List Line). Reads bodies next xs z q) (sym behind) h)) in
     omega (arith, on)
 
-apart : (v w : Version) (n : ℕ) → within w ≡ headed v n → ⊥
-apart v w n e = cc
+not_complete : (v : Version) (n : ℕ) (q : Place) → q ≡ in_proof (headed v n) → is_complete q ≡ true → ⊥
+not_complete v n q e c = let f : false ≡ true = sym (ap is_complete e) ∙ c in cc
 
 -- cites alone are no body
-no_lemma : (xs : List LineText) (v w : Version) (n : ℕ) (names : List (List ℕ)) → Reads (headed v n) xs (map cite names ++ []) (within w) → ⊥
-no_lemma [] v w n names h = apart v w n h.1
-no_lemma (too_long ∷ xs) v w n names h = h
-no_lemma (whole line ∷ xs) v w n names (inl h) = no_lemma xs v w n names h.1
-no_lemma (whole line ∷ xs) v w n [] (inr (said, next, more, says, a, h, eq)) = absurd (cc)
-no_lemma (whole line ∷ xs) v w n (name ∷ names) (inr (said, next, more, says, a, h, eq)) =
-    let first : cite name ≡ said = cc in
-    let behind : map cite names ++ [] ≡ more = cc in
-    let one = cite_stands v n name next (ap (after (headed v n)) first ∙ a) in
-    no_lemma xs v w (n + 1) names
-    (subst (λ (z : Place). Reads z xs (map cite names ++ []) (within w)) one.there (subst (λ (z : List Line). Reads next xs z (within w)) (sym behind) h))
+no_lemma : (xs : List LineText) (v : Version) (q : Place) (n : ℕ) (names : List (List ℕ)) → is_complete q ≡ true → Reads bodies (in_proof (headed v n)) xs (map proof_line (map cite names ++ [])) q → ⊥
+no_lemma [] v q n names c h = not_complete v n q h.1 c
+no_lemma (too_long ∷ xs) v q n names c h = h
+no_lemma (whole line ∷ xs) v q n names c (inl h) = no_lemma xs v q n names c h.1
+no_lemma (whole line ∷ xs) v q n [] c (inr (said, next, more, says, a, h, eq)) = absurd (no_lines said more (sym eq))
+no_lemma (whole line ∷ xs) v q n (name ∷ names) c (inr (said, next, more, says, a, h, eq)) =
+    let first = same_head (proof_line (cite name)) said (map proof_line (map cite names ++ [])) more eq in
+    let behind = same_tail (proof_line (cite name)) said (map proof_line (map cite names ++ [])) more eq in
+    let one = cite_stands v n name next (ap (after (in_proof (headed v n))) first ∙ a) in
+    no_lemma xs v q (n + 1) names c
+    (subst (λ (z : Place). Reads bodies z xs (map proof_line (map cite names ++ [])) q) one.there (subst (λ (z : List Line). Reads bodies next xs z q) (sym behind) h))
 
-some_lemma : (v : Version) (xs : List LineText) (names : List (List ℕ)) (ls : List Lemma) → Reads (headed v 0) xs (map cite names ++ lemma_lines ls) (within v) → 0 < length ls
-some_lemma v xs names [] h = absurd (no_lemma xs v v 0 names h)
-some_lemma v xs names (l ∷ ls) h = omega arith
+some_lemma : (v : Version) (xs : List LineText) (names : List (List ℕ)) (ls : List Lemma) (q : Place) → is_complete q ≡ true
+    → Reads bodies (in_proof (headed v 0)) xs (map proof_line (map cite names ++ lemma_lines ls)) q → 0 < length ls
+some_lemma v xs names [] q c h = absurd (no_lemma xs v q 0 names c h)
+some_lemma v xs names (l ∷ ls) q c h = omega arith
 
 pub body_writable : (lines : List LineText) (b : FileBody) → IsBody lines b → IsWritableBody b
-body_writable lines (proof p) (v, h) =
-    let all = reads_writable opening (within v) lines (lines_said v p) h in
-    let behind = behind_heading lines v p.hypothesis p.goal (map cite p.cites ++ lemma_lines p.lemmas) (within v) h in
-    let few : 0 + length p.cites ≤ cite_limit = few_cites behind.lines v 0 p.cites (lemma_lines p.lemmas) (within v) (omega arith) behind.reads in (
-      some_lemma v behind.lines p.cites p.lemmas behind.reads,
+body_writable lines (proof p) h =
+    let v = h.says.0 in
+    let q = h.are_whole.come in
+    let reads = subst (λ (z : List Line). Reads bodies opening lines z q) h.says.1 h.are_whole.reads in
+    let all = proof_writable (proof_lines v p) (reads_writable opening q lines (map proof_line (proof_lines v p)) reads) in
+    let behind = behind_heading lines v p.hypothesis p.goal (map cite p.cites ++ lemma_lines p.lemmas) q reads in
+    let few : 0 + length p.cites ≤ cite_limit = few_cites behind.lines v 0 p.cites (lemma_lines p.lemmas) q (omega arith) behind.reads in (
+      some_lemma v behind.lines p.cites p.lemmas q h.are_whole.complete behind.reads,
       omega arith,
-      All-from_recursion IsWritable (lines_said (version_for p) p) all,
+      All-from_recursion IsWritableProofLine (proof_lines (version_for p) p) all,
     )

@@ -4,19 +4,19 @@ use Rattle.std.proofs.Math.Seq.{take-suc}
 use Rattle.std.specs.List.{list_any}
 use Rattle.etp_term.specs.Sides.{side_of, position_of}
 use Rattle.etp_term.specs.declared.position.Side.{Side}
-use Rattle.etp_replay.specs.Lemmas.{step_of, lemma_of}
-use Rattle.etp_replay.specs.declared.proof.Step.{Step}
-use Rattle.etp_replay.specs.declared.proof.Lemma as Program
-use Rattle.etp_items.specs.BodyLines.{Line, lemma, step}
+use Rattle.etp_proof.specs.Lemmas.{step_of, lemma_of}
+use Rattle.etp_proof.specs.declared.proof.Step.{Step}
+use Rattle.etp_proof.specs.declared.proof.Lemma as Program
+use Rattle.etp_items.specs.ProofLines.{ProofLine, lemma, step}
 use Rattle.etp_items.specs.Reading.{lemma_lines}
-use Rattle.etp_items.specs.Written.{written_line, written_lines, side_letter, position_word, is_cited, has_cited, is_empty}
+use Rattle.etp_items.specs.Written.{written_proof_line, written_proof_lines, side_letter, position_word, is_cited, has_cited, is_empty}
 use Rattle.etp_items.proofs.SideLemmas.{map_end}
 use Rattle.etp_items.proofs.WorkLemmas.{lines_end}
 
-pub written_append : (xs ys : List Line) → written_lines (xs ++ ys) ≡ written_lines xs ++ written_lines ys
+pub written_append : (xs ys : List ProofLine) → written_proof_lines (xs ++ ys) ≡ written_proof_lines xs ++ written_proof_lines ys
 written_append [] ys = refl
 written_append (x ∷ xs) ys =
-    ap (λ z. written_line x ++ 10 ∷ z) (written_append xs ys) ∙ sym (append_assoc (written_line x) (10 ∷ written_lines xs) (written_lines ys))
+    ap (λ z. written_proof_line x ++ 10 ∷ z) (written_append xs ys) ∙ sym (append_assoc (written_proof_line x) (10 ∷ written_proof_lines xs) (written_proof_lines ys))
 
 taken : {A B : Type 0} (f : A → B) (xs : List A) (i : ℕ) (x : A) → i < length xs → x ≡ get_or xs i x → map f (take (i + 1) xs) ≡ map f (take i xs) ++ f x ∷ []
 taken f xs i x h e =
@@ -25,32 +25,32 @@ taken f xs i x h e =
 grown : (s t u v w : List ℕ) → t ≡ s ++ u → w ≡ u ++ v → t ++ v ≡ s ++ w
 grown s t u v w e f = ap (λ z. z ++ v) e ∙ append_assoc s u v ∙ ap (λ z. s ++ z) (sym f)
 
-pub more_lines : {A : Type 0} (f : A → Line) (xs : List A) (i : ℕ) (x : A) (s t : List ℕ) → i < length xs → x ≡ get_or xs i x → t ≡ s ++ written_lines (map f (take i xs))
-    → t ++ written_lines (f x ∷ []) ≡ s ++ written_lines (map f (take (i + 1) xs))
+pub more_lines : {A : Type 0} (f : A → ProofLine) (xs : List A) (i : ℕ) (x : A) (s t : List ℕ) → i < length xs → x ≡ get_or xs i x → t ≡ s ++ written_proof_lines (map f (take i xs))
+    → t ++ written_proof_lines (f x ∷ []) ≡ s ++ written_proof_lines (map f (take (i + 1) xs))
 more_lines f xs i x s t h e k =
-    grown s t (written_lines (map f (take i xs))) (written_lines (f x ∷ [])) (written_lines (map f (take (i + 1) xs))) k
-    (ap written_lines (taken f xs i x h e) ∙ written_append (map f (take i xs)) (f x ∷ []))
+    grown s t (written_proof_lines (map f (take i xs))) (written_proof_lines (f x ∷ [])) (written_proof_lines (map f (take (i + 1) xs))) k
+    (ap written_proof_lines (taken f xs i x h e) ∙ written_append (map f (take i xs)) (f x ∷ []))
 
-pub more_steps : (xs : List Step) (i : ℕ) (x : Step) (s t : List ℕ) → i < length xs → x ≡ get_or xs i x → t ≡ s ++ written_lines (map step (map step_of (take i xs)))
-    → t ++ written_lines (step (step_of x) ∷ []) ≡ s ++ written_lines (map step (map step_of (take (i + 1) xs)))
+pub more_steps : (xs : List Step) (i : ℕ) (x : Step) (s t : List ℕ) → i < length xs → x ≡ get_or xs i x → t ≡ s ++ written_proof_lines (map step (map step_of (take i xs)))
+    → t ++ written_proof_lines (step (step_of x) ∷ []) ≡ s ++ written_proof_lines (map step (map step_of (take (i + 1) xs)))
 more_steps xs i x s t h e k =
-    grown s t (written_lines (map step (map step_of (take i xs)))) (written_lines (step (step_of x) ∷ [])) (written_lines (map step (map step_of (take (i + 1) xs)))) k
-    (ap (λ ys. written_lines (map step ys)) (taken step_of xs i x h e) ∙ ap written_lines (map_end step (map step_of (take i xs)) (step_of x))
+    grown s t (written_proof_lines (map step (map step_of (take i xs)))) (written_proof_lines (step (step_of x) ∷ [])) (written_proof_lines (map step (map step_of (take (i + 1) xs)))) k
+    (ap (λ ys. written_proof_lines (map step ys)) (taken step_of xs i x h e) ∙ ap written_proof_lines (map_end step (map step_of (take i xs)) (step_of x))
     ∙ written_append (map step (map step_of (take i xs))) (step (step_of x) ∷ []))
 
-pub more_lemmas : (xs : List Program.Lemma) (i : ℕ) (x : Program.Lemma) (s t : List ℕ) → i < length xs → x ≡ get_or xs i x → t ≡ s ++ written_lines (lemma_lines (map lemma_of (take i xs)))
-    → t ++ written_lines (lemma_lines (lemma_of x ∷ [])) ≡ s ++ written_lines (lemma_lines (map lemma_of (take (i + 1) xs)))
+pub more_lemmas : (xs : List Program.Lemma) (i : ℕ) (x : Program.Lemma) (s t : List ℕ) → i < length xs → x ≡ get_or xs i x → t ≡ s ++ written_proof_lines (lemma_lines (map lemma_of (take i xs)))
+    → t ++ written_proof_lines (lemma_lines (lemma_of x ∷ [])) ≡ s ++ written_proof_lines (lemma_lines (map lemma_of (take (i + 1) xs)))
 more_lemmas xs i x s t h e k =
-    grown s t (written_lines (lemma_lines (map lemma_of (take i xs)))) (written_lines (lemma_lines (lemma_of x ∷ []))) (written_lines (lemma_lines (map lemma_of (take (i + 1) xs)))) k
-    (ap (λ ls. written_lines (lemma_lines ls)) (taken lemma_of xs i x h e) ∙ ap written_lines (lines_end (map lemma_of (take i xs)) (lemma_of x))
+    grown s t (written_proof_lines (lemma_lines (map lemma_of (take i xs)))) (written_proof_lines (lemma_lines (lemma_of x ∷ []))) (written_proof_lines (lemma_lines (map lemma_of (take (i + 1) xs)))) k
+    (ap (λ ls. written_proof_lines (lemma_lines ls)) (taken lemma_of xs i x h e) ∙ ap written_proof_lines (lines_end (map lemma_of (take i xs)) (lemma_of x))
     ∙ written_append (lemma_lines (map lemma_of (take i xs))) (lemma_lines (lemma_of x ∷ [])))
 
 -- a lemma is its start and its steps
-pub one_lemma : (x : Program.Lemma) (s t u : List ℕ) → t ≡ s ++ written_lines (lemma (lemma_of x).start ∷ []) → u ≡ t ++ written_lines (map step (map step_of x.steps)) → u ≡ s ++ written_lines (lemma_lines (lemma_of x ∷ []))
+pub one_lemma : (x : Program.Lemma) (s t u : List ℕ) → t ≡ s ++ written_proof_lines (lemma (lemma_of x).start ∷ []) → u ≡ t ++ written_proof_lines (map step (map step_of x.steps)) → u ≡ s ++ written_proof_lines (lemma_lines (lemma_of x ∷ []))
 one_lemma x s t u e f =
-    f ∙ ap (λ z. z ++ written_lines (map step (map step_of x.steps))) e
-    ∙ append_assoc s (written_lines (lemma (lemma_of x).start ∷ [])) (written_lines (map step (map step_of x.steps)))
-    ∙ ap (λ z. s ++ z) (sym (written_append (lemma (lemma_of x).start ∷ []) (map step (map step_of x.steps))) ∙ ap (λ z. written_lines (lemma (lemma_of x).start ∷ z)) (sym (append-nil (map step (map step_of x.steps)))))
+    f ∙ ap (λ z. z ++ written_proof_lines (map step (map step_of x.steps))) e
+    ∙ append_assoc s (written_proof_lines (lemma (lemma_of x).start ∷ [])) (written_proof_lines (map step (map step_of x.steps)))
+    ∙ ap (λ z. s ++ z) (sym (written_append (lemma (lemma_of x).start ∷ []) (map step (map step_of x.steps))) ∙ ap (λ z. written_proof_lines (lemma (lemma_of x).start ∷ z)) (sym (append-nil (map step (map step_of x.steps)))))
 
 pub more_sides : (xs : List Side) (i : ℕ) (x : Side) (s t : List ℕ) → i < length xs → x ≡ get_or xs i x → t ≡ s ++ map side_letter (position_of (take i xs))
     → t ++ side_letter (side_of x) ∷ [] ≡ s ++ map side_letter (position_of (take (i + 1) xs))
@@ -78,9 +78,9 @@ pub no_cites : (names : List (List ℕ)) → length names ≡ 0 → is_empty nam
 no_cites [] h = refl
 no_cites (n ∷ names) h = absurd (omega (arith, h))
 
-pub whole_text : (h : Line) (cs ls : List Line) (t u v w : List ℕ) → t ≡ [] → u ≡ t ++ written_lines (h ∷ []) → v ≡ u ++ written_lines cs → w ≡ v ++ written_lines ls → w ≡ written_lines (h ∷ (cs ++ ls))
+pub whole_text : (h : ProofLine) (cs ls : List ProofLine) (t u v w : List ℕ) → t ≡ [] → u ≡ t ++ written_proof_lines (h ∷ []) → v ≡ u ++ written_proof_lines cs → w ≡ v ++ written_proof_lines ls → w ≡ written_proof_lines (h ∷ (cs ++ ls))
 whole_text h cs ls t u v w none e f g =
-    g ∙ ap (λ z. z ++ written_lines ls) (f ∙ ap (λ z. z ++ written_lines cs) (e ∙ ap (λ z. z ++ written_lines (h ∷ [])) none) ∙ sym (written_append (h ∷ []) cs)) ∙ sym (written_append (h ∷ cs) ls)
+    g ∙ ap (λ z. z ++ written_proof_lines ls) (f ∙ ap (λ z. z ++ written_proof_lines cs) (e ∙ ap (λ z. z ++ written_proof_lines (h ∷ [])) none) ∙ sym (written_append (h ∷ []) cs)) ∙ sym (written_append (h ∷ cs) ls)
 
 pub citing_is : (names : List (List ℕ)) (ls xs : List Program.Lemma) (b : Bool) → length names ≡ 0 → ls ≡ xs → b ≡ list_any (λ (l : Program.Lemma). list_any (λ (x : Step). x.cited) l.steps) ls
     → b ≡ (not (is_empty names) || list_any has_cited (map lemma_of xs))

@@ -1,8 +1,8 @@
 -- What the lines of a file say, without the program's types.
 use Rattle.std.specs.Prelude.{ℕ, List, map}
 use Rattle.etp_theory.specs.Proofs.{Lemma}
-use Rattle.etp_replay.specs.Lemmas.{lemma_of}
-use Rattle.etp_replay.specs.declared.proof.Proof.{Proof}
+use Rattle.etp_proof.specs.Lemmas.{lemma_of}
+use Rattle.etp_proof.specs.declared.proof.Proof.{Proof}
 use Rattle.etp_items.specs.declared.body.Body.{Body}
 use Rattle.etp_items.specs.declared.body.Body.TheVariants as Program
 

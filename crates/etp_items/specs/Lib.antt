@@ -1,6 +1,6 @@
+pub mod Sides
 pub mod Bodies
-pub mod Words
-pub mod Numbers
+pub mod ProofLines
 pub mod BodyLines
 pub mod Said
 pub mod Reading

@@ -1,18 +1,19 @@
 -- Which lines and versions the values of the program stand for.
 use Rattle.std.specs.Prelude.{◌≡◌, ◌∷◌, ℕ, Bool, List, Some, codes}
+use Rattle.etp_words.specs.Words.{words_of, behind_word}
 use Rattle.etp_term.specs.Terms.{tree_of}
-use Rattle.etp_replay.specs.Lemmas.{step_of}
-use Rattle.etp_items.specs.BodyLines.{Version, plain, citing, Line, heading, cite, lemma, step, reference_of, reversed_of}
-use Rattle.etp_items.specs.Words.{words_of, behind_word}
-use Rattle.etp_items.specs.declared.proof_lines.Version as Program
-use Rattle.etp_items.specs.declared.proof_lines.Version.TheVariants.{Plain, Citing}
-use Rattle.etp_items.specs.declared.lines.Said.{Said}
-use Rattle.etp_items.specs.declared.lines.Said.TheVariants.{Heading, Cite, Lemma, Step}
-use Rattle.etp_items.specs.declared.proof_lines.Reference.{Reference}
-use Rattle.etp_items.specs.declared.proof_lines.StepWords.{StepWords}
+use Rattle.etp_proof.specs.Lemmas.{step_of}
+use Rattle.etp_items.specs.ProofLines.{Version, plain, citing, ProofLine, heading, cite, lemma, step, reference_of, reversed_of}
+use Rattle.etp_items.specs.BodyLines.{Line, proof_line}
+use Rattle.etp_items.specs.declared.proof.lines.Version as Versions
+use Rattle.etp_items.specs.declared.proof.lines.Version.TheVariants.{Plain, Citing}
+use Rattle.etp_items.specs.declared.proof.lines.ProofLine as Program
+use Rattle.etp_items.specs.declared.proof.lines.ProofLine.TheVariants.{Heading, Cite, Lemma, Step}
+use Rattle.etp_items.specs.declared.proof.lines.Reference.{Reference}
+use Rattle.etp_items.specs.declared.proof.lines.StepWords.{StepWords}
 
 -- the version
-abbrev pub version_of : Program.Version → Version
+abbrev pub version_of : Versions.Version → Version
 version_of Plain = plain
 version_of Citing = citing
 
@@ -20,12 +21,16 @@ version_of Citing = citing
 abbrev pub named_by : Reference → ℕ × Bool
 named_by r = (r.line, r.cited)
 
+-- what a line of a proof said
+abbrev pub proof_line_of : Program.ProofLine → ProofLine
+proof_line_of (Heading h) = heading (version_of h.version) h.hypothesis h.goal
+proof_line_of (Cite name) = cite name
+proof_line_of (Lemma t) = lemma (tree_of t)
+proof_line_of (Step x) = step (step_of x)
+
 -- what a line said
-abbrev pub line_of : Said → Line
-line_of (Heading h) = heading (version_of h.version) h.hypothesis h.goal
-line_of (Cite name) = cite name
-line_of (Lemma t) = lemma (tree_of t)
-line_of (Step x) = step (step_of x)
+abbrev pub line_of : Program.ProofLine → Line
+line_of line = proof_line (proof_line_of line)
 
 -- the line has these words of a step, and this text where its term stands
 pub record HasStepWords (line : List ℕ) (w : StepWords) : Type 0 where

@@ -1,13 +1,15 @@
 -- What ties lines, bodies and refusals together.
-use Rattle.std.specs.Prelude.{◌≡◌, ℕ, Bool, true, List}
+use Rattle.std.specs.Prelude.{◌≡◌, ℕ, Bool, true, List, All}
+use Rattle.etp_theory.specs.Numbered.{IsLaw}
 use Rattle.etp_theory.specs.Trees.{Equation}
 use Rattle.etp_theory.specs.Proofs.{IsValidProof}
 use Rattle.etp_io.specs.Texts.{LineText, lines_of}
 use Rattle.etp_items.specs.Bodies.{FileBody, ProofBody, proof}
-use Rattle.etp_items.specs.BodyLines.{Line, Says, IsBlankLine}
-use Rattle.etp_items.specs.Reading.{IsBody, IsReadBody, Refuses}
+use Rattle.etp_words.specs.Words.{IsBlankLine}
+use Rattle.etp_items.specs.BodyLines.{Line, Says}
+use Rattle.etp_items.specs.Reading.{IsBody, IsReadBody, body_numbers, Refuses}
 use Rattle.etp_items.specs.Written.{written_body, IsWritableBody, IsShortBody}
-use Rattle.etp_items.specs.declared.refusal.BodyRefusal.{BodyRefusal}
+use Rattle.etp_reading.specs.declared.refusal.BodyRefusal.{BodyRefusal}
 
 -- lines, bodies, refusals and the written form
 pub record BodyLaws : Type 0 where
@@ -16,6 +18,9 @@ pub record BodyLaws : Type 0 where
   pub blank_line : (line : List ℕ) (l : Line) → IsBlankLine line → Says line l → ⊥
   -- lines are one body
   pub one_body : (lines : List LineText) (b c : FileBody) → IsBody lines b → IsBody lines c → b ≡ c
+  -- and the law numbers of a body that was read are listed
+  pub listed_numbers : (count : ℕ) (lines : List LineText) (closed : Bool) (b : FileBody)
+      → IsReadBody count lines closed b → All (IsLaw count) (body_numbers b)
   -- lines that are a closed body with listed numbers aren't refused
   pub body_stands : (count : ℕ) (lines : List LineText) (closed : Bool) (b : FileBody) (r : BodyRefusal)
       → IsReadBody count lines closed b → Refuses count lines closed r → ⊥

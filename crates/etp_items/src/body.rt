@@ -1,4 +1,4 @@
-use etp_replay::Proof;
+use etp_proof::Proof;
 
 /// What the lines of a file say.
 #[derive(Drop)]

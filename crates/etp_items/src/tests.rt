@@ -1,6 +1,6 @@
 // Bodies by their lines, and what is written of them.
 use crate::{Body, BodyReader, BodyRefusal, body_text, lemma_line, step_line};
-use etp_replay::{Proof, Step};
+use etp_proof::{Proof, Step};
 use etp_term::{Position, Side};
 use etp_text::write_term;
 use std::alloc::{AllocError, Global};

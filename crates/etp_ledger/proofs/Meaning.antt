@@ -18,7 +18,7 @@ use Rattle.etp_closure.specs.Answers.{Says}
 use Rattle.etp_closure.specs.declared.facts.Answer.{Answer}
 use Rattle.etp_closure.specs.declared.facts.Answer.TheVariants.{Implied, Refuted, Unsettled}
 use Rattle.etp_items.specs.Bodies.{FileBody}
-use Rattle.etp_replay.specs.Names.{IsName}
+use Rattle.etp_proof.specs.Names.{IsName}
 use Rattle.etp_check.specs.Checks.{fact_said, hypothesis_of, cites_of, IsListedBody, AreCitedNumbers, IsValidBody, HasLaws}
 use Rattle.etp_check.specs.Refusals.{IsBodyOffence, IsCheckRefused}
 use Rattle.etp_check.specs.declared.refusal.CheckRefusal.{CheckRefusal}

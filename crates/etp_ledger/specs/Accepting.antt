@@ -3,7 +3,7 @@ use Rattle.std.specs.Prelude.{◌≡◌, ℕ, List, [], ◌∷◌, ◌++◌, Non
 use Rattle.etp_theory.specs.Trees.{Equation}
 use Rattle.etp_laws.specs.Listing.{IsTheList}
 use Rattle.etp_items.specs.Bodies.{FileBody}
-use Rattle.etp_replay.specs.Names.{IsName}
+use Rattle.etp_proof.specs.Names.{IsName}
 use Rattle.etp_check.specs.Checks.{IsValidBody, hypothesis_of, cites_of}
 use Rattle.etp_ledger.specs.Files.{File, body_named, StandsAsProof, cited_goals}
 

@@ -14,7 +14,7 @@ use crate::kept::{Files, Kept};
 use crate::refusal::LedgerRefusal;
 use etp_closure::Fact;
 use etp_items::Body;
-use etp_replay::Cites;
+use etp_proof::Cites;
 use std::alloc::Global;
 
 // The file of a name.

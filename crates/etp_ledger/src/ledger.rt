@@ -23,7 +23,7 @@ use etp_check::check;
 use etp_closure::{Answer, Closure, Fact};
 use etp_items::Body;
 use etp_laws::Laws;
-use etp_replay::Label as Name;
+use etp_proof::Label as Name;
 use indexmap::IndexMap;
 use std::alloc::{AllocError, Global};
 use std::marker::Model;

@@ -9,7 +9,7 @@ mod kept;
 mod ledger;
 mod refusal;
 
-pub use etp_replay::Label as Name;
+pub use etp_proof::Label as Name;
 pub use ledger::Ledger;
 pub use refusal::LedgerRefusal;
 

@@ -4,8 +4,8 @@ use Rattle.etp_laws.specs.declared.laws.Numbered.{Numbered}
 use Rattle.etp_laws.specs.declared.laws.Numbered.TheVariants.{Is, Trivial, TooManyOps}
 use Rattle.etp_text.specs.declared.refusal.TextRefusal.{TextRefusal}
 use Rattle.etp_text.specs.declared.refusal.TextRefusal.TheVariants as Text
-use Rattle.etp_items.specs.declared.refusal.BodyRefusal.{BodyRefusal}
-use Rattle.etp_items.specs.declared.refusal.BodyRefusal.TheVariants.{BadLine, TooManyLines, Unfinished, UnknownLaw}
+use Rattle.etp_reading.specs.declared.refusal.BodyRefusal.{BodyRefusal}
+use Rattle.etp_reading.specs.declared.refusal.BodyRefusal.TheVariants.{BadLine, TooManyLines, Unfinished, UnknownLaw}
 use Rattle.etp_check.specs.declared.refusal.CheckRefusal.{CheckRefusal}
 use Rattle.etp_check.specs.declared.refusal.CheckRefusal.TheVariants as Checked
 use Rattle.etp_ledger.specs.declared.refusal.LedgerRefusal.{LedgerRefusal}

@@ -3,7 +3,7 @@ ghost use Rattle.std.specs.Prelude.{◌≡◌, ◌≢◌, ◌++◌, IfOk, OnOk, 
 ghost use Rattle.etp_print.specs.RefusalTexts.{body_refusal, found_text, step_place, replay_refusal, file_refusal};
 
 use etp_check::CheckRefusal;
-use etp_items::BodyRefusal;
+use etp_reading::BodyRefusal;
 use etp_laws::Numbered;
 use etp_ledger::LedgerRefusal;
 use etp_replay::ReplayRefusal;

@@ -8,9 +8,9 @@ use Rattle.etp_theory.specs.Proofs.{ProofStep, Lemma, last_term, conclusion, con
 use Rattle.std.proofs.lemmas.List.{take-map}
 use Rattle.etp_term.specs.Terms.{tree_of}
 use Rattle.etp_match.proofs.Extending.{map_after}
-use Rattle.etp_replay.specs.Lemmas.{step_of, lemma_of}
-use Rattle.etp_replay.specs.declared.proof.Step.{Step}
-use Rattle.etp_replay.specs.declared.proof.Lemma as Program
+use Rattle.etp_proof.specs.Lemmas.{step_of, lemma_of}
+use Rattle.etp_proof.specs.declared.proof.Step.{Step}
+use Rattle.etp_proof.specs.declared.proof.Lemma as Program
 use Rattle.etp_replay.specs.Steps.{IsStepCheck}
 use Rattle.etp_replay.specs.Replay.{IsFoundRefused, IsStepRefused, wrong, IsLemmaRefused, IsFirstWrong}
 use Rattle.etp_replay.specs.declared.checking.StepCheck.{StepCheck}

@@ -4,12 +4,12 @@ use Rattle.etp_theory.specs.Trees.{Equation}
 use Rattle.etp_theory.specs.Sameness.{Same}
 use Rattle.etp_theory.specs.Proofs.{conclusion, AreRightLemmas, IsValidProof}
 use Rattle.etp_laws.specs.LawLists.{LawList}
-use Rattle.etp_replay.specs.Lemmas.{lemma_of}
+use Rattle.etp_proof.specs.Lemmas.{lemma_of}
 use Rattle.etp_replay.specs.Validity.{IsOtherLaw, IsOtherGoal}
-use Rattle.etp_replay.specs.declared.proof.Lemma.{Lemma}
+use Rattle.etp_proof.specs.declared.proof.Lemma.{Lemma}
 use Rattle.etp_replay.specs.declared.refusal.ReplayRefusal.{ReplayRefusal}
 use Rattle.etp_replay.proofs.Growing.{stands_at}
-use Rattle.etp_replay.proofs.Naming.{length_map}
+use Rattle.etp_proof.proofs.LastTerm.{length_map}
 
 last_stands : (xs ys : List Lemma) (x : Lemma) → ys ≡ xs → 0 < length xs → x ≡ get_or ys (length ys - 1) x → slice_get (map lemma_of xs) (length (map lemma_of xs) - 1) ≡ Some (lemma_of x)
 last_stands xs ys x e k q =

@@ -6,4 +6,3 @@ pub mod Goals
 pub mod Judged
 pub mod OneStep
 pub mod OneVerdict
-pub mod LastStep

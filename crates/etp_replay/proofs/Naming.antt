@@ -1,17 +1,15 @@
 -- The equation that a step names, by places in lists.
-use Rattle.std.proofs.Common.{◌≡◌, ℕ, zero, suc, ◌-◌, List, [], ◌∷◌, length, map, Bor, Option, Some, None, slice_get, refl, sym, ap, ◌∙◌, arith}
+use Rattle.std.proofs.Common.{◌≡◌, ℕ, zero, suc, ◌-◌, List, [], ◌∷◌, map, Bor, Option, Some, None, slice_get, refl, sym, ap, ◌∙◌, arith}
 use Rattle.std.specs.Option.{option_map}
 use Rattle.std.proofs.lemmas.Option.{slice_get-map}
-use Rattle.etp_theory.specs.Trees.{Tree, Equation}
+use Rattle.etp_theory.specs.Trees.{Equation}
 use Rattle.etp_theory.specs.Proofs.{ProofStep, last_term, conclusion, conclusions, line_equation, cited_equation}
 use Rattle.etp_theory.specs.Proofs as Theory
-use Rattle.etp_term.specs.Terms.{tree_of}
 use Rattle.etp_term.specs.Laws.{equation_of}
 use Rattle.etp_term.specs.declared.law.Law.{Law}
-use Rattle.etp_replay.specs.Lemmas.{step_of, lemma_of}
+use Rattle.etp_proof.specs.Lemmas.{lemma_of}
 use Rattle.etp_replay.specs.Lines.{cites_of}
-use Rattle.etp_replay.specs.declared.proof.Step.{Step}
-use Rattle.etp_replay.specs.declared.proof.Lemma.{Lemma}
+use Rattle.etp_proof.specs.declared.proof.Lemma.{Lemma}
 
 pub line_after : (h : Equation) (earlier : List Equation) (k : ℕ) → (k ≡ 0 → ⊥) → line_equation h earlier k ≡ slice_get earlier (k - 1)
 line_after h earlier zero n = absurd (n refl)
@@ -25,22 +23,6 @@ pub conclusion_at : (ls : List Theory.Lemma) (k : ℕ) → slice_get (conclusion
 conclusion_at [] k = refl
 conclusion_at (l ∷ ls) zero = refl
 conclusion_at (l ∷ ls) (suc k) = conclusion_at ls k
-
-pub last_at : (s : Tree) (xs : List ProofStep) (x : ProofStep) → slice_get xs (length xs - 1) ≡ Some x → last_term s xs ≡ x.to
-last_at s [] x h = absurd (cc)
-last_at s (y ∷ []) x h = let f : Some y ≡ Some x = h in ap (λ (z : ProofStep). z.to) (let g : y ≡ x = cc in g)
-last_at s (y ∷ z ∷ zs) x h =
-    let e : suc (length zs) ≡ length (y ∷ z ∷ zs) - 1 = omega arith in
-    let f : length (z ∷ zs) - 1 ≡ length zs = omega arith in
-    last_at y.to (z ∷ zs) x (ap (slice_get (z ∷ zs)) f ∙ ap (slice_get (y ∷ z ∷ zs)) e ∙ h)
-
-pub length_map : {A B : Type 0} (f : A → B) (xs : List A) → length (map f xs) ≡ length xs
-length_map f [] = refl
-length_map f (x ∷ xs) = ap suc (length_map f xs)
-
-pub last_step : (s : Tree) (xs : List Step) (x : Step) → slice_get xs (length xs - 1) ≡ Some x → last_term s (map step_of xs) ≡ tree_of x.to
-last_step s xs x h =
-    last_at s (map step_of xs) (step_of x) (ap (λ n. slice_get (map step_of xs) (n - 1)) (length_map step_of xs) ∙ slice_get-map step_of xs (length xs - 1) ∙ ap (option_map step_of) h)
 
 pub cited_at : (cites : List (Bor Law)) (n : ℕ) (o : Option (Bor Law)) → (n ≡ 0 → ⊥) → o ≡ slice_get cites (n - 1) → cited_equation (cites_of cites) n ≡ option_map (λ (l : Bor Law). equation_of l.now) o
 cited_at cites n o k h =

@@ -6,7 +6,7 @@ use Rattle.etp_theory.specs.Proofs.{conclusions}
 use Rattle.etp_term.specs.Terms.{tree_of}
 use Rattle.etp_term.specs.Laws.{equation_of}
 use Rattle.etp_term.specs.declared.law.Law.{Law}
-use Rattle.etp_replay.specs.Lemmas.{lemma_of}
+use Rattle.etp_proof.specs.Lemmas.{lemma_of}
 use Rattle.etp_replay.specs.declared.checking.Sides.{Sides}
 use Rattle.etp_replay.specs.declared.replaying.Lines.{Lines}
 

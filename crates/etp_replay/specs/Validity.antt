@@ -7,9 +7,9 @@ use Rattle.etp_laws.specs.Listing.{trivial}
 use Rattle.etp_theory.specs.Numbered.{law_numbered}
 use Rattle.etp_laws.specs.LawLists.{LawList}
 use Rattle.etp_laws.specs.Numbers.{IsNumbered}
-use Rattle.etp_replay.specs.Lemmas.{lemma_of}
+use Rattle.etp_proof.specs.Lemmas.{lemma_of}
 use Rattle.etp_replay.specs.Replay.{IsFirstWrong}
-use Rattle.etp_replay.specs.declared.proof.Proof.{Proof}
+use Rattle.etp_proof.specs.declared.proof.Proof.{Proof}
 use Rattle.etp_replay.specs.declared.refusal.ReplayRefusal.{ReplayRefusal}
 use Rattle.etp_replay.specs.declared.refusal.ReplayRefusal.TheVariants.{GoalDiffers, NoMemory}
 

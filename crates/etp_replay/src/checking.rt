@@ -1,14 +1,15 @@
 ghost use Rattle.std.specs.Prelude.{◌≡◌, ◌↔◌, IsTrue, IsSome, IfOk};
 ghost use Rattle.etp_theory.specs.Positions.{sub_at};
-ghost use Rattle.etp_theory.specs.Proofs.{AgreeOutside, as_read};
+ghost use Rattle.etp_theory.specs.Proofs.{AgreeOutside, as_read, conclusion};
 ghost use Rattle.etp_term.specs.Terms.{tree_of};
 ghost use Rattle.etp_term.specs.Laws.{equation_of};
 ghost use Rattle.etp_term.specs.Sides.{position_of};
+ghost use Rattle.etp_proof.specs.Lemmas.{lemma_of};
 ghost use Rattle.etp_replay.specs.Lines.{sides_of};
 ghost use Rattle.etp_replay.specs.Steps.{IsStepCheck};
 
-use crate::proof::Step;
 use etp_match::Bindings;
+use etp_proof::{Lemma, Step};
 use etp_term::{Law, NoMemory, Side, Term};
 use std::alloc::Global;
 
@@ -39,6 +40,16 @@ impl<'p> Sides<'p> {
         Sides {
             left: &law.left,
             right: &law.right,
+        }
+    }
+
+    /// The sides of the lemma's conclusion.
+    pub(crate) fn concluded(lemma: &'p Lemma) -> Sides<'p>
+        ensures { sides_of result ≡ conclusion (lemma_of lemma.now) }
+    {
+        Sides {
+            left: &lemma.start,
+            right: lemma.last_term(),
         }
     }
 

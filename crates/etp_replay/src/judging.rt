@@ -5,15 +5,15 @@ ghost use Rattle.etp_theory.specs.Proofs.{conclusion, AllDerived};
 ghost use Rattle.etp_term.specs.Laws.{equation_of};
 ghost use Rattle.etp_laws.specs.Listing.{IsTheList};
 ghost use Rattle.etp_theory.specs.Numbered.{law_numbered};
-ghost use Rattle.etp_replay.specs.Lemmas.{lemma_of};
+ghost use Rattle.etp_proof.specs.Lemmas.{lemma_of};
 ghost use Rattle.etp_replay.specs.Lines.{cites_of};
 ghost use Rattle.etp_replay.specs.Validity.{law_at, IsValid, IsRefused, IsOtherLaw};
 
-use crate::proof::{Lemma, Proof};
 use crate::refusal::ReplayRefusal;
 use crate::replaying::replay_lemmas;
 use etp_laws::{Laws, Numbered};
 use etp_match::Bindings;
+use etp_proof::{Lemma, Proof};
 use etp_term::{Law, NoMemory};
 use std::alloc::Global;
 

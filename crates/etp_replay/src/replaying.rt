@@ -2,14 +2,14 @@ ghost use Rattle.std.specs.Prelude.{◌≡◌, ◌<◌, [], OnOk, IfErr, MatchOp
 ghost use Rattle.etp_theory.specs.Proofs.{line_equation, cited_equation, named_equation, IsRightStep, AreRightSteps, AreRightLemmas};
 ghost use Rattle.etp_term.specs.Terms.{tree_of};
 ghost use Rattle.etp_term.specs.Laws.{equation_of};
-ghost use Rattle.etp_replay.specs.Lemmas.{step_of, lemma_of};
+ghost use Rattle.etp_proof.specs.Lemmas.{step_of, lemma_of};
 ghost use Rattle.etp_replay.specs.Lines.{sides_of, cites_of, hypothesis_in, cites_in, earlier_in};
 ghost use Rattle.etp_replay.specs.Replay.{IsMissing, IsFoundRefused, IsStepRefused, IsLemmaRefused, IsFirstWrong};
 
 use crate::checking::{Sides, StepCheck, test_step};
-use crate::proof::{Lemma, Step};
 use crate::refusal::ReplayRefusal;
 use etp_match::Bindings;
+use etp_proof::{Lemma, Step};
 use etp_term::{Law, Term};
 use sqlite_items::at;
 
@@ -59,7 +59,7 @@ impl<'c, 'p> Lines<'c, 'p> {
         }
         match at(self.earlier, number as usize - 1) {
             None => None,
-            Some(lemma) => Some(lemma.sides()),
+            Some(lemma) => Some(Sides::concluded(lemma)),
         }
     }
 

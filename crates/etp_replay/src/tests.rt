@@ -271,14 +271,6 @@ fn left_projection_exchanges_nothing(rt: HostRuntime) {
 }
 
 #[test]
-fn a_name_begins_with_a_letter_or_a_digit(rt: HostRuntime) {
-    let alloc = rt.alloc();
-    let name = Label::of(alloc, b"p1.a").expect(&rt, "memory");
-    assert_eq!(rt; name.expect(&rt, "a name").len(), 4);
-    assert!(rt; Label::of(alloc, b".a").expect(&rt, "memory").is_none());
-}
-
-#[test]
 fn a_cite_must_be_there(rt: HostRuntime) {
     let alloc = rt.alloc();
     let laws = Laws::build(alloc).expect(&rt, "memory");

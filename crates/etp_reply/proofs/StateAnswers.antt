@@ -3,7 +3,7 @@ use Rattle.std.proofs.Common.{◌≡◌, ℕ, List, [], refl, sym, ◌∙◌, ap
 use Rattle.std.specs.Borrow.{Bor}
 use Rattle.etp_io.specs.Texts.{LineText}
 use Rattle.etp_ledger.specs.Files.{File}
-use Rattle.etp_items.specs.Reading.{given_text}
+use Rattle.etp_reading.specs.Reading.{given_text}
 use Rattle.etp_command.specs.Requests.{Query, Request, asked, withdraw, query}
 use Rattle.etp_print.specs.Texts.{Reply, silent, refused, reply_text}
 use Rattle.etp_print.specs.Given.{Gives, GivesThen}

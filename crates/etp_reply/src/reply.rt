@@ -1,7 +1,7 @@
 // What a line comes to: which part of the desk obeys it.
 ghost use Rattle.std.specs.Prelude.{◌≡◌, ◌≤◌, ◌||◌, [], Some, IfOk, IfSome, OnOk, Bool, length, None, List, ℕ};
 ghost use Rattle.etp_io.specs.Texts.{LineText};
-ghost use Rattle.etp_items.specs.Reading.{given_text};
+ghost use Rattle.etp_reading.specs.Reading.{given_text};
 ghost use Rattle.etp_command.specs.Requests.{asked, load};
 ghost use Rattle.etp_command.specs.Values.{request_from, IsWithin};
 ghost use Rattle.etp_desk.specs.States.{State};

@@ -13,7 +13,7 @@ use Rattle.etp_io.specs.Answers.{FitsAt, GivesLines, PartGives, to_come, says}
 use Rattle.etp_io.specs.declared.lines.Next.{Next}
 use Rattle.etp_io.specs.declared.lines.Next.TheVariants.{End}
 use Rattle.etp_io.proofs.Laws.{Loses-none, lines_of-append}
-use Rattle.etp_items.specs.Reading.{given_text}
+use Rattle.etp_reading.specs.Reading.{given_text}
 use Rattle.etp_desk.specs.States as States
 use Rattle.etp_reply.specs.Shelves.{KnownShelf, HasLines, IsLong, IsTooLong}
 use Rattle.etp_session.specs.Ends.{Takes}

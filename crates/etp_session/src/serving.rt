@@ -1,7 +1,7 @@
 // Sessions, line by line.
 ghost use Rattle.std.specs.Prelude.{◌≡◌, ◌↔◌, IsTrue, ◌++◌, [], ◌+◌, ◌-◌, ◌≤◌, ℕ, List, length, IfOk, IfErr, IfSome, OnOk, IsErrOf, ◌⊎◌, ◌||◌, true, false};
 ghost use Rattle.etp_io.specs.Causes.{Rose};
-ghost use Rattle.etp_items.specs.Reading.{given_text};
+ghost use Rattle.etp_reading.specs.Reading.{given_text};
 ghost use Rattle.etp_desk.specs.States.{State};
 ghost use Rattle.etp_reply.specs.Shelves.{known};
 ghost use Rattle.etp_reply.specs.Replies.{Reaches};

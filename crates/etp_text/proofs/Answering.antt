@@ -3,9 +3,10 @@ use Rattle.std.proofs.Common.{◌≡◌, ℕ, ◌+◌, ◌<◌, ◌≤◌, Bool,
 use Rattle.std.proofs.lemmas.Bool.{cond-false}
 use Rattle.std.proofs.lemmas.Option.{some_pair_parts}
 use Rattle.etp_theory.specs.Trees.{Tree, Equation, leaves}
-use Rattle.etp_text.specs.Grammar.{is_blank, AreBlanks, StartsWith, Begins, AreTokens, IsAtom, IsSide, IsLaw, variable, enclosed, alone, joined, SpellsTerm, SpellsLaw}
+use Rattle.etp_words.specs.Words.{is_blank, skip_blanks}
+use Rattle.etp_text.specs.Grammar.{AreBlanks, StartsWith, Begins, AreTokens, IsAtom, IsSide, IsLaw, variable, enclosed, alone, joined, SpellsTerm, SpellsLaw}
 use Rattle.etp_text.specs.Refusals.{side_limit, RefusesTerm, RefusesLaw, IsTermText, IsLawText, IsViable, Before, IsSyntaxAt, IsVariableAt, as_variable}
-use Rattle.etp_text.specs.Machine.{skip_blanks, token_at, Takes, RefusesText, Stand, State, start, step, run, text_of, side_in, HasRead, HasReadAll}
+use Rattle.etp_text.specs.Machine.{token_at, Takes, RefusesText, Stand, State, start, step, run, text_of, side_in, HasRead, HasReadAll}
 use Rattle.etp_text.specs.declared.token.Token.{Token}
 use Rattle.etp_text.specs.declared.token.Token.TheVariants.{Opening, Closing, Equals, Operator, Variable, Unknown}
 use Rattle.etp_text.specs.declared.refusal.TextRefusal.{TextRefusal}

@@ -1,5 +1,5 @@
 -- How long a written term is.
-use Rattle.std.proofs.Common.{◌≡◌, ℕ, ◌+◌, ◌*◌, ◌<◌, ◌≤◌, arith, Bool, true, false, cond, nat_eq, List, ◌∷◌, ◌++◌, length, codes, decimal, length-append}
+use Rattle.std.proofs.Common.{◌≡◌, ℕ, ◌+◌, ◌*◌, ◌<◌, ◌≤◌, arith, Bool, true, false, cond, nat_eq, List, ◌++◌, length, codes, decimal, length-append}
 use Rattle.std.proofs.lemmas.Fmt.{length-decimal-le}
 use Rattle.etp_theory.specs.Trees.{Tree, var, op, bound, leaves}
 use Rattle.etp_text.specs.Written.{sign, variable_name, written_part, written_term}

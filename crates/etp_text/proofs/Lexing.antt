@@ -6,9 +6,10 @@ use Rattle.std.proofs.lemmas.Bool.{cond-true, cond-false}
 use Rattle.std.proofs.lemmas.Bool.Decides.{nat_tests}
 use Rattle.std.proofs.lemmas.List.{take-append-le, take_all}
 use Rattle.std.proofs.lemmas.Option.{some_pair_parts}
+use Rattle.etp_words.specs.Words.{is_blank, skip_blanks}
 use Rattle.etp_text.specs.Written.{variable_name}
-use Rattle.etp_text.specs.Grammar.{is_blank, AreBlanks, IsName, IsToken, IsNameOver, MayEnd, StartsWith, Begins}
-use Rattle.etp_text.specs.Machine.{skip_blanks, name_at, behind_name, named, sign_at, token_at}
+use Rattle.etp_text.specs.Grammar.{AreBlanks, IsName, IsToken, IsNameOver, MayEnd, StartsWith, Begins}
+use Rattle.etp_text.specs.Machine.{name_at, behind_name, named, sign_at, token_at}
 use Rattle.etp_text.specs.declared.token.Token.{Token}
 use Rattle.etp_text.specs.declared.token.Token.TheVariants.{Opening, Closing, Equals, Operator, Variable, Unknown}
 use Rattle.etp_text.proofs.Names.{split, both, name_named, variable_named, variable_is_name, name_token}

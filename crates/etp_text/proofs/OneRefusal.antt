@@ -3,9 +3,10 @@ use Rattle.std.proofs.Common.{◌≡◌, ◌≢◌, ℕ, ◌+◌, Bool, true, fa
 use Rattle.std.proofs.lemmas.Bool.{cond-false}
 use Rattle.std.proofs.lemmas.Option.{some_pair_parts}
 use Rattle.etp_theory.specs.Trees.{Equation, leaves}
+use Rattle.etp_words.specs.Words.{skip_blanks}
 use Rattle.etp_text.specs.Grammar.{StartsWith, Begins}
 use Rattle.etp_text.specs.Refusals.{IsTooLarge, RefusesTerm, RefusesLaw, IsViable, Before, IsSyntaxAt, IsVariableAt, as_variable}
-use Rattle.etp_text.specs.Machine.{skip_blanks, token_at, text_of}
+use Rattle.etp_text.specs.Machine.{token_at, text_of}
 use Rattle.etp_text.specs.declared.token.Token.{Token}
 use Rattle.etp_text.specs.declared.token.Token.TheVariants.{Variable, Unknown}
 use Rattle.etp_text.specs.declared.refusal.TextRefusal.{TextRefusal}

@@ -1,15 +1,12 @@
 -- The texts of terms and laws: bytes are tokens with blanks between them, and tokens are sides.
-use Rattle.std.specs.Prelude.{ℕ, ◌<◌, ◌≡◌, ◌≢◌, ◌⊎◌, Bool, true, false, nat_eq, ◌||◌, List, [], ◌∷◌, ◌++◌, codes}
+use Rattle.std.specs.Prelude.{ℕ, ◌<◌, ◌≡◌, ◌≢◌, ◌⊎◌, true, false, List, [], ◌∷◌, ◌++◌, codes}
 use Rattle.std.specs.List.{AllByRecursion}
 use Rattle.std.specs.Char.{is_ascii_alphabetic, is_ascii_alphanumeric}
 use Rattle.etp_theory.specs.Trees.{Tree, var, op, Equation}
+use Rattle.etp_words.specs.Words.{is_blank}
 use Rattle.etp_text.specs.Written.{variable_name}
 use Rattle.etp_text.specs.declared.token.Token.{Token}
 use Rattle.etp_text.specs.declared.token.Token.TheVariants.{Opening, Closing, Equals, Operator, Variable, Unknown}
-
--- a space or a tab
-abbrev pub is_blank : ℕ → Bool
-is_blank byte = nat_eq byte 32 || nat_eq byte 9
 
 abbrev pub AreBlanks : List ℕ → Type 0
 AreBlanks = AllByRecursion (λ byte. is_blank byte ≡ true)

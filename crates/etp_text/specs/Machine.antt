@@ -4,7 +4,7 @@ use Rattle.std.specs.Option.{option_map, option_and_then}
 use Rattle.std.specs.Char.{is_ascii_alphabetic, is_ascii_alphanumeric}
 use Rattle.etp_theory.specs.Trees.{Tree, var, op}
 use Rattle.etp_term.specs.Terms.{tree_of}
-use Rattle.etp_text.specs.Grammar.{is_blank, AreBlanks, Begins}
+use Rattle.etp_text.specs.Grammar.{AreBlanks, Begins}
 use Rattle.etp_text.specs.Refusals.{IsTermText, IsLawText, IsSyntaxAt, IsVariableAt}
 use Rattle.etp_text.specs.declared.token.Token.{Token}
 use Rattle.etp_text.specs.declared.token.Token.TheVariants.{Opening, Closing, Equals, Operator, Variable, Unknown}
@@ -13,11 +13,6 @@ use Rattle.etp_text.specs.declared.reading.Part.TheVariants.{Wanted, Atom, Pair}
 use Rattle.etp_text.specs.declared.reading.Reading.{Reading}
 use Rattle.etp_text.specs.declared.refusal.TextRefusal.{TextRefusal}
 use Rattle.etp_text.specs.declared.refusal.TextRefusal.TheVariants.{Syntax, Variable as WrongVariable, TooLarge, NoMemory}
-
--- without the blanks at its front
-abbrev pub skip_blanks : List ℕ → List ℕ
-skip_blanks [] = []
-skip_blanks (byte ∷ bytes) = if is_blank byte then skip_blanks bytes else (byte ∷ bytes)
 
 -- the letters and digits at the front, and what is behind them
 abbrev pub name_at : List ℕ → List ℕ

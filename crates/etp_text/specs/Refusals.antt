@@ -1,7 +1,8 @@
 -- Why a text is refused: the first refusal from left to right.
 use Rattle.std.specs.Prelude.{ℕ, ◌+◌, ◌<◌, ◌≤◌, ◌≡◌, ◌⊎◌, false, List, [], ◌∷◌, ◌++◌, length, Result, Ok, Err}
 use Rattle.etp_theory.specs.Trees.{Tree, Equation, leaves}
-use Rattle.etp_text.specs.Grammar.{is_blank, AreBlanks, StartsWith, Begins, IsSide, IsLaw, SpellsTerm, SpellsLaw}
+use Rattle.etp_words.specs.Words.{is_blank}
+use Rattle.etp_text.specs.Grammar.{AreBlanks, StartsWith, Begins, IsSide, IsLaw, SpellsTerm, SpellsLaw}
 use Rattle.etp_text.specs.declared.token.Token.{Token}
 use Rattle.etp_text.specs.declared.token.Token.TheVariants.{Variable, Unknown}
 use Rattle.etp_text.specs.declared.refusal.TextRefusal.{TextRefusal}

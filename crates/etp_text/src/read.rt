@@ -8,8 +8,9 @@ ghost use Rattle.etp_text.specs.Machine.{state_of, text_of, HasReadAll, RefusesT
 
 use crate::reading::Reading;
 use crate::refusal::TextRefusal;
-use crate::token::{skip_blanks, token_at};
+use crate::token::token_at;
 use etp_term::{Law, Term};
+use etp_words::skip_blanks;
 use std::alloc::Global;
 
 /// The term that a text spells, where it has at most 255 leaves; else the first refusal. An operator

@@ -1,6 +1,6 @@
 ghost use Rattle.std.specs.Prelude.{◌≡◌, ◌≤◌, ◌-◌, length, take};
 ghost use Rattle.std.specs.Option.{option_map};
-ghost use Rattle.etp_text.specs.Machine.{skip_blanks, name_at, behind_name, one_letter, two_bytes, three_bytes, named, sign_at, token_at};
+ghost use Rattle.etp_text.specs.Machine.{name_at, behind_name, one_letter, two_bytes, three_bytes, named, sign_at, token_at};
 
 /// A token of a text. A name that is none of the 64 variables is unknown.
 #[derive(Clone, Copy)]
@@ -11,20 +11,6 @@ pub(crate) enum Token {
     Operator,
     Variable(u8),
     Unknown,
-}
-
-/// Passes the blanks at the front.
-pub(crate) fn skip_blanks(bytes: &[u8]) -> &[u8]
-    ensures { result.now ≡ skip_blanks bytes.now }
-{
-    let mut rest = bytes;
-    while let Some((byte, more)) = rest.split_first() {
-        if *byte != b' ' && *byte != b'\t' {
-            break;
-        }
-        rest = more;
-    }
-    rest
 }
 
 /// The token at the front, and the bytes behind it; None where no token begins there.

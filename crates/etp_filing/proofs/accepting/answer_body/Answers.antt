@@ -11,7 +11,7 @@ use Rattle.etp_filing.proofs.accepting.answer_body.Goals as goal
 pub accept_file-requires-clause-listed : goal.accept_file-requires-clause-listed
 accept_file-requires-clause-listed c =
     let g = c.requires.stands.0 in let is = c.requires.stands.1 in
-    body-listed c.args.opened.now.laws.equations c.args.reader.count g.lines c.args.closed (body_of c.in-Ok.body) is.count (c.in-Ok.ensures.ok g.lines is.read)
+    body-listed c.args.opened.now.laws.equations c.args.reader.tally.count g.lines c.args.closed (body_of c.in-Ok.body) is.count (c.in-Ok.ensures.ok g.lines is.read)
 
 pub accept_file-requires-clause-content : goal.accept_file-requires-clause-content
 accept_file-requires-clause-content c =

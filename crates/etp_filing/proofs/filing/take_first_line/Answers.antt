@@ -1,5 +1,5 @@
 use Rattle.std.proofs.Common.{sym, ◌∙◌}
-use Rattle.etp_items.specs.Reading.{given_text}
+use Rattle.etp_reading.specs.Reading.{given_text}
 use Rattle.etp_filing.proofs.FilingLemmas.{unbuilt-first}
 use Rattle.etp_filing.proofs.FileAnswers.{first-unbuilt, reads-blank, reads-other}
 use Rattle.etp_filing.proofs.filing.take_first_line.Goals as goal

@@ -1,4 +1,4 @@
-use Rattle.etp_items.specs.Reading.{given_text}
+use Rattle.etp_reading.specs.Reading.{given_text}
 use Rattle.etp_filing.proofs.FilingLemmas.{unbuilt-stays}
 use Rattle.etp_filing.proofs.FileAnswers.{reads-later}
 use Rattle.etp_filing.proofs.filing.with_line.Goals as goal

@@ -2,7 +2,7 @@ use Rattle.std.proofs.Common.{inr, subst}
 use Rattle.etp_theory.specs.Proofs.{conclusion}
 use Rattle.etp_laws.specs.Numbers.{IsNumbered}
 use Rattle.etp_laws.proofs.DualNumbers.{one_number_of}
-use Rattle.etp_replay.specs.Lemmas.{lemma_of}
+use Rattle.etp_proof.specs.Lemmas.{lemma_of}
 use Rattle.etp_replay.proofs.Goals.{other_law}
 use Rattle.etp_replay.proofs.judging.compare_goal.Goals as goal
 

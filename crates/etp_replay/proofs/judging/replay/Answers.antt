@@ -2,7 +2,7 @@ use Rattle.std.proofs.Common.{◌≡◌, inl, inr, map, Err, rules, ap, ◌∙�
 use Rattle.etp_theory.specs.Proofs.{IsValidProof}
 use Rattle.etp_theory.proofs.Theorems.{proof_laws}
 use Rattle.etp_term.specs.Laws.{equation_of}
-use Rattle.etp_replay.specs.Lemmas.{lemma_of}
+use Rattle.etp_proof.specs.Lemmas.{lemma_of}
 use Rattle.etp_replay.specs.Lines.{cites_of}
 use Rattle.etp_replay.specs.Validity.{law_at, IsRefused}
 use Rattle.etp_replay.proofs.Judged.{is_valid, other_goal}

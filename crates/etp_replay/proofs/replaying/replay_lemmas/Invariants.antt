@@ -1,7 +1,7 @@
 use Rattle.std.proofs.Common.{map, take, []}
 use Rattle.etp_theory.specs.Proofs.{AreRightLemmas}
 use Rattle.etp_term.specs.Laws.{equation_of}
-use Rattle.etp_replay.specs.Lemmas.{lemma_of}
+use Rattle.etp_proof.specs.Lemmas.{lemma_of}
 use Rattle.etp_replay.specs.Lines.{cites_of}
 use Rattle.etp_replay.proofs.replaying.replay_lemmas.Given as goal
 

@@ -1,5 +1,5 @@
 use Rattle.std.proofs.Common.{sym, ◌∙◌}
-use Rattle.etp_items.specs.Reading.{given_text}
+use Rattle.etp_reading.specs.Reading.{given_text}
 use Rattle.etp_print.proofs.GivenLemmas.{IfOk-then}
 use Rattle.etp_reply.proofs.StateAnswers.{closes-body, goes-on-body}
 use Rattle.etp_reply.proofs.reply.respond_in_body.Goals as goal

@@ -1,5 +1,5 @@
 use Rattle.std.proofs.Common.{Some}
-use Rattle.etp_items.specs.Reading.{given_text}
+use Rattle.etp_reading.specs.Reading.{given_text}
 use Rattle.etp_print.proofs.GivenLemmas.{IfOk-then}
 use Rattle.etp_reply.proofs.StateAnswers.{over-outcome, first-outcome}
 use Rattle.etp_reply.proofs.reply.respond_to_request.Goals as goal

@@ -1,24 +1,21 @@
-use Rattle.std.proofs.Common.{◌≡◌, ◌&&◌, false, refl}
+use Rattle.std.proofs.Common.{◌≡◌, ◌∙◌, sym, ap, subst, true, Some, None, Bool}
+use Rattle.std.specs.Option.{option_map, is_some}
+use Rattle.etp_reading.specs.Tallies.{Judges}
 use Rattle.etp_items.specs.Bodies.{body_of}
-use Rattle.etp_items.specs.Reading.{is_complete}
-use Rattle.etp_items.specs.Work.{place_of}
-use Rattle.etp_items.proofs.ReaderLemmas.{ends_open, ends_whole, ends_unlisted}
+use Rattle.etp_items.specs.Work.{IsWhole}
+use Rattle.etp_items.proofs.ReaderLemmas.{some_mapped, ends_refused, ends_whole}
 use Rattle.etp_items.proofs.reader.BodyReader.finish.Goals as goal
 
-pub returns-then-not-closed-clause-err : goal.returns-then-not-closed-clause-err
-returns-then-not-closed-clause-err c lines read =
-    let open_end : (c.args.closed && is_complete (place_of c.args.self.work)) ≡ false = rw c.if-not-closed.true refl in
-    ends_open c.args.self lines c.args.closed read c.in_default.is c.if-lines-gt-LINE_LIMIT.false open_end
-
-pub returns-in_default-into_body-clause-err : goal.returns-in_default-into_body-clause-err
-returns-in_default-into_body-clause-err c lines read =
-    let open_end : (c.args.closed && is_complete (place_of c.args.self.work)) ≡ false = rw c.if-not-closed.false c.in_default-into_body.ensures in
-    ends_open c.args.self lines c.args.closed read c.in_default.is c.if-lines-gt-LINE_LIMIT.false open_end
-
-pub returns-in-Some-unlisted-clause-err : goal.returns-in-Some-unlisted-clause-err
-returns-in-Some-unlisted-clause-err c lines read =
-    ends_unlisted c.args.self lines c.args.closed (body_of c.in-Some-into_body.body) c.in-Some-unlisted.first read c.in_default.is c.if-lines-gt-LINE_LIMIT.false c.if-not-closed.false c.in-Some-into_body.ensures c.in-Some-unlisted.is
+pub returns-in-Some-clause-err : goal.returns-in-Some-clause-err
+returns-in-Some-clause-err c lines read =
+    let body = c.into_body-body.result in
+    let some : c.is_some.result ≡ is_some (option_map body_of body) = c.is_some.ensures ∙ sym (some_mapped body_of body) in
+    ends_refused c.args.self lines c.args.closed (option_map body_of body) c.in-Some.refusal read c.into_body-body.ensures
+    (subst (λ (b : Bool). Judges c.args.self.tally c.args.closed b (Some c.in-Some.refusal)) some (rw c.in-Some.is at c.refusal.ensures))
 
 pub returns-in-None-clause-ok : goal.returns-in-None-clause-ok
 returns-in-None-clause-ok c lines read =
-    ends_whole c.args.self lines c.args.closed (body_of c.in-Some-into_body.body) read c.in_default.is c.if-lines-gt-LINE_LIMIT.false c.if-not-closed.false c.in-Some-into_body.ensures c.in-None.is
+    let there : c.is_some.result ≡ true = c.is_some.ensures ∙ ap is_some c.unwrap.ensures in
+    ends_whole c.args.self lines c.args.closed (body_of c.unwrap.result) read
+    (subst (λ o. IsWhole c.args.self.work (option_map body_of o)) c.unwrap.ensures c.into_body-body.ensures)
+    (subst (λ (b : Bool). Judges c.args.self.tally c.args.closed b None) there (rw c.in-None.is at c.refusal.ensures))

@@ -1,32 +1,27 @@
-use Rattle.std.proofs.Common.{◌≤◌, ◌∷◌, ◌++◌, [], Some, arith, subst, sym}
-use Rattle.etp_items.specs.Work.{HasRead}
-use Rattle.etp_items.specs.declared.reader.BodyReader.{BodyReader}
-use Rattle.etp_items.specs.Reading.{given_text, line_limit}
-use Rattle.etp_items.proofs.ReaderLemmas.{pushed_skipped, pushed_good, pushed_bad, few_lines, good_lines}
+use Rattle.etp_reading.specs.Reading.{given_text}
+use Rattle.etp_items.proofs.ReaderLemmas.{pushed_counted, pushed_blank, pushed_bad, pushed_taken}
 use Rattle.etp_items.proofs.reader.BodyReader.push.Goals as goal
 
 pub returns-then-only_counts-clause-ok : goal.returns-then-only_counts-clause-ok
 returns-then-only_counts-clause-ok c lines read =
-    rw c.count_line.ensures (pushed_skipped c.args.self.now lines (given_text c.args.line) read (c.only_counts.ensures.yes c.if-only_counts.true))
+    rw c.count_line.ensures (pushed_counted c.args.self.now lines (given_text c.args.line) read (c.only_counts.ensures.yes c.if-only_counts.true))
 
-pub returns-then-not-good-clause-ok : goal.returns-then-not-good-clause-ok
-returns-then-not-good-clause-ok c lines read =
-    let r = c.args.self.now in
-    let m = c.read_next.new.self in
-    let line = given_text c.args.line in
+pub returns-in-Blank-clause-ok : goal.returns-in-Blank-clause-ok
+returns-in-Blank-clause-ok c lines read =
     let only = c.only_counts.ensures.no c.if-only_counts.false in
-    let some : r.lines ≤ line_limit = omega (arith, only.1) in
-    let past = c.in_ok-good.ensures.past lines (few_lines r lines read some) (good_lines r lines read only.0) in
-    subst (λ (n : BodyReader). HasRead (record n { bad = Some n.lines }) (lines ++ line ∷ [])) (sym c.count_line-2.ensures)
-    (pushed_bad r m lines line read only.0 only.1 c.in_ok-good.ensures.counts (rw c.if-not-good.true at past))
+    let next = rw c.in-Blank.is at c.in_ok-take.ensures.next in
+    rw c.count_line-in-Blank.ensures
+    (pushed_blank c.args.self.now c.take.new.self lines (given_text c.args.line) next.0 read only.0 only.1 next.1 next.2 next.3 c.in_ok-take.ensures.tally)
 
-pub returns-else-not-good-clause-ok : goal.returns-else-not-good-clause-ok
-returns-else-not-good-clause-ok c lines read =
-    let r = c.args.self.now in
-    let m = c.read_next.new.self in
-    let line = given_text c.args.line in
+pub returns-in-Bad-clause-ok : goal.returns-in-Bad-clause-ok
+returns-in-Bad-clause-ok c lines read =
     let only = c.only_counts.ensures.no c.if-only_counts.false in
-    let some : r.lines ≤ line_limit = omega (arith, only.1) in
-    let past = c.in_ok-good.ensures.past lines (few_lines r lines read some) (good_lines r lines read only.0) in
-    subst (λ (n : BodyReader). HasRead n (lines ++ line ∷ [])) (sym c.count_line-2.ensures)
-    (pushed_good r m lines line read only.0 c.in_ok-good.ensures.counts (rw c.if-not-good.false at past))
+    rw c.count_bad_line.ensures
+    (pushed_bad c.args.self.now c.take.new.self lines (given_text c.args.line) read only.0 only.1 (rw c.in-Bad.is at c.in_ok-take.ensures.next) c.in_ok-take.ensures.tally)
+
+pub returns-in-Taken-clause-ok : goal.returns-in-Taken-clause-ok
+returns-in-Taken-clause-ok c lines read =
+    let only = c.only_counts.ensures.no c.if-only_counts.false in
+    let next = rw c.in-Taken.is at c.in_ok-take.ensures.next in
+    rw c.count_numbers.ensures
+    (pushed_taken c.args.self.now c.take.new.self lines (given_text c.args.line) next.0 c.in-Taken.number read only.0 only.1 next.1 next.2 c.in_ok-take.ensures.tally)

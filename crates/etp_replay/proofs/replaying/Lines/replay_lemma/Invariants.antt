@@ -1,7 +1,7 @@
 use Rattle.std.proofs.Common.{◌≡◌, map, take}
 use Rattle.etp_theory.specs.Proofs.{last_term, AreRightSteps}
 use Rattle.etp_term.specs.Terms.{tree_of}
-use Rattle.etp_replay.specs.Lemmas.{step_of}
+use Rattle.etp_proof.specs.Lemmas.{step_of}
 use Rattle.etp_replay.specs.Lines.{hypothesis_in, cites_in, earlier_in}
 use Rattle.etp_replay.proofs.replaying.Lines.replay_lemma.Given as goal
 

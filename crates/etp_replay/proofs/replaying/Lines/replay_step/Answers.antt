@@ -1,5 +1,5 @@
 use Rattle.etp_term.specs.Terms.{tree_of}
-use Rattle.etp_replay.specs.Lemmas.{step_of}
+use Rattle.etp_proof.specs.Lemmas.{step_of}
 use Rattle.etp_replay.specs.Lines.{sides_of, hypothesis_in, cites_in, earlier_in}
 use Rattle.etp_replay.proofs.Growing.{outcome_refused}
 use Rattle.etp_replay.proofs.replaying.Lines.replay_step.Goals as goal

@@ -1,0 +1,4 @@
+// Proofs: what their lines say, the proof that the lines make, and its text.
+pub(crate) mod lines;
+pub(crate) mod work;
+pub(crate) mod writing;

@@ -1,0 +1,2 @@
+pub mod LastStep
+pub mod LastTerm

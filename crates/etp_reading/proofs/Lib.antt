@@ -1,0 +1,5 @@
+pub mod ReadingLemmas
+pub mod OneRefusal
+pub mod TallyLemmas
+pub mod Theorems
+pub mod FirstOf

@@ -1,0 +1,4 @@
+pub mod Grammars
+pub mod Reading
+pub mod Tallies
+pub mod Theorems
