@@ -66,7 +66,7 @@ first-unbuilt (whole line) h = go (are_blank (words_of line)) (begins_unbuilt (w
 
 -- a line more, before which all are blank
 pub reads-blank : (o : Opened) (name : List ℕ) (r s : BodyReader) (g : Filing) (l : LineText) → begins_as l ≡ Blank
-    → ((lines : List LineText) → HasRead r lines → HasRead s (lines ++ l ∷ [])) → s.count ≡ r.count
+    → ((lines : List LineText) → HasRead r lines → HasRead s (lines ++ l ∷ [])) → s.tally.count ≡ r.tally.count
     → IsReading o name r g × (are_all_blank g.lines ≡ true) → IsReading o name s (with_line g l) × (are_all_blank (g.lines ++ l ∷ []) ≡ true)
 reads-blank o name r s g l b pushed count h =
     let first = first-blank l b in (
@@ -75,7 +75,7 @@ reads-blank o name r s g l b pushed count h =
     )
 
 pub reads-other : (o : Opened) (name : List ℕ) (r s : BodyReader) (g : Filing) (l : LineText) → begins_as l ≡ Other
-    → ((lines : List LineText) → HasRead r lines → HasRead s (lines ++ l ∷ [])) → s.count ≡ r.count
+    → ((lines : List LineText) → HasRead r lines → HasRead s (lines ++ l ∷ [])) → s.tally.count ≡ r.tally.count
     → IsReading o name r g × (are_all_blank g.lines ≡ true) → IsReading o name s (with_line g l) × (are_all_blank (g.lines ++ l ∷ []) ≡ false)
 reads-other o name r s g l b pushed count h =
     let first = first-other l b in (
@@ -85,7 +85,7 @@ reads-other o name r s g l b pushed count h =
 
 -- a line more, before which one isn't
 pub reads-later : (o : Opened) (name : List ℕ) (r s : BodyReader) (g : Filing) (l : LineText)
-    → ((lines : List LineText) → HasRead r lines → HasRead s (lines ++ l ∷ [])) → s.count ≡ r.count
+    → ((lines : List LineText) → HasRead r lines → HasRead s (lines ++ l ∷ [])) → s.tally.count ≡ r.tally.count
     → IsReading o name r g × (are_all_blank g.lines ≡ false) → IsReading o name s (with_line g l) × (are_all_blank (g.lines ++ l ∷ []) ≡ false)
 reads-later o name r s g l pushed count h = (
   record { free = h.0.free; read = pushed g.lines h.0.read; count = count ∙ h.0.count; built = unbuilt-later g.lines l h.1 ∙ h.0.built },

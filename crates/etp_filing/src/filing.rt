@@ -12,8 +12,8 @@ ghost use Rattle.etp_filing.specs.Filings.{begins_as, with_line, loading, IsPend
 use etp_command::only_word;
 use etp_desk::Opened;
 use etp_items::BodyReader;
-use etp_words::{is, is_comment, next_word};
 use etp_ledger::Name;
+use etp_words::{is, is_comment, next_word};
 use std::alloc::{AllocError, Global};
 
 // What becomes of a file whose body is being read: it is refused, whatever its lines say, or read.

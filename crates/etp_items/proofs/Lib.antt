@@ -15,3 +15,4 @@ pub mod Writable
 pub mod ShortLines
 pub mod ReadAgain
 pub mod ReaderLemmas
+pub mod Theorems
