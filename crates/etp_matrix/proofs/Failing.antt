@@ -8,9 +8,9 @@ use Rattle.etp_theory.specs.Magmas.{meaning, Holds}
 use Rattle.etp_forms.specs.Forms.{coefficient, HaveOneForm}
 use Rattle.etp_forms.proofs.Values as Forms
 use Rattle.etp_matrix.specs.Magmas.{MatrixMagma, IsMatrixMagma, inside, times, entry}
-use Rattle.etp_matrix.specs.Values.{affine, plus, zeros, unit, column_of, constant_of, matrix_of}
+use Rattle.etp_matrix.specs.Values.{affine, plus, zeros, unit, column_of, constant_of, matrix_of, column}
 use Rattle.etp_matrix.specs.Failures.{point, padded, IsPoint, IsBefore, IsFirstFailure}
-use Rattle.etp_matrix.specs.Walks.{IsVector, column, Form, matrix_at, HasNumbers, AreAllSame, IsFirstDifference}
+use Rattle.etp_matrix.specs.Walks.{IsVector, Form, matrix_at, HasNumbers, AreAllSame, IsFirstDifference}
 use Rattle.etp_matrix.specs.declared.parts.MatrixFailure.{MatrixFailure}
 use Rattle.etp_matrix.proofs.Sums.{from_vector}
 use Rattle.etp_matrix.proofs.Modules.{zeros_vector, unit_vector, units, unit_of, among_units, generate, none_there, plus_cancelled, constant_vector}

@@ -7,9 +7,9 @@ use Rattle.std.proofs.lemmas.Nat.{mul-add-lt}
 use Rattle.etp_theory.specs.Trees.{Tree, var, op, bound}
 use Rattle.etp_forms.specs.Forms.{coefficient, constant}
 use Rattle.etp_matrix.specs.Magmas.{MatrixMagma, IsMatrixMagma, AreBelow, vector, entry}
-use Rattle.etp_matrix.specs.Values.{plus, product, zeros, unit, column_of, constant_of}
+use Rattle.etp_matrix.specs.Values.{plus, product, zeros, unit, column_of, constant_of, column, by_columns}
 use Rattle.etp_matrix.specs.Linears.{magma_of}
-use Rattle.etp_matrix.specs.Walks.{IsVector, column, AreVectors, by_columns, applied, wide, wide_affine, Form, form, matrix_at, CanGain, Gains, HasNumbers}
+use Rattle.etp_matrix.specs.Walks.{IsVector, AreVectors, applied, wide, wide_column, Extends, wide_affine, Form, form, matrix_at, CanGain, Gains, HasNumbers}
 use Rattle.etp_matrix.specs.declared.matrix_linear.MatrixLinear.{MatrixLinear}
 use Rattle.etp_matrix.proofs.Sums.{at, past, is_vector, vectors_same}
 use Rattle.etp_matrix.proofs.Modules.{IsAdditive, coefficient_vector, constant_vector, plus_vector, product_vector, zeros_vector, unit_vector, plus_associative, plus_commutative, plus_neutral, product_additive, product_zeros, product_unit, product_is_additive, composed, agree}
@@ -85,8 +85,8 @@ wide_below m size a some all i j = go (below_or i size) (below_or j size)
     go (inr h) k = subst (λ w. w < m) (sym (wide_none size a i j h)) some
 
 -- each column of such a matrix is a vector
-pub wide_column : (m size : ℕ) (a : List ℕ) → 0 < m → AreBelow m (take (size * size) a) → (k : ℕ) → IsVector m 4 (vector 4 (λ i. wide size a i k))
-wide_column m size a some all k = record {
+pub wide_vector : (m size : ℕ) (a : List ℕ) → 0 < m → AreBelow m (take (size * size) a) → (k : ℕ) → IsVector m 4 (wide_column size a k)
+wide_vector m size a some all k = record {
   long = refl;
   below = λ i h. subst (λ w. w < m) (sym (at 4 (λ i. wide size a i k) i h)) (wide_below m size a some all i k);
 }
@@ -126,27 +126,24 @@ module _ (l : MatrixLinear) (long_c : length l.c ≡ 4) where
   pub coefficient_in : (t : Tree) (v k : ℕ) → V (coefficient (wide_affine l) t v (unit l.modulus 4 k))
   coefficient_in t v k = coefficient_vector l.modulus 4 some (wide l.size l.a) (wide l.size l.b) l.c t v (unit l.modulus 4 k) (unit_vector l.modulus 4 some k)
 
-  abbrev Extends : List (List ℕ) → List ℕ → List (List ℕ) → Type 0
-  Extends p a q = (k : ℕ) → k < 4 → column q k ≡ applied l.modulus p (vector 4 (λ i. wide l.size a i k))
+  pub extended_vectors : (p : List (List ℕ)) (a : List ℕ) (q : List (List ℕ)) → Extends l p a q → AreVectors l.modulus q
+  extended_vectors p a q e k h = subst V (sym (e k h)) (product_vector l.modulus 4 some (by_columns p) (wide_column l.size a k))
 
-  pub extended_vectors : (p : List (List ℕ)) (a : List ℕ) (q : List (List ℕ)) → Extends p a q → AreVectors l.modulus q
-  extended_vectors p a q e k h = subst V (sym (e k h)) (product_vector l.modulus 4 some (by_columns p) (vector 4 (λ i. wide l.size a i k)))
-
-  pub can_left : (s t : Tree) (p q : List (List ℕ)) (old : Form) (c : List ℕ) → CanGain l (op s t) p old → Extends p l.a q → c ≡ plus l.modulus 4 old.constant (applied l.modulus p l.c) → CanGain l s q (form old.matrices c)
+  pub can_left : (s t : Tree) (p q : List (List ℕ)) (old : Form) (c : List ℕ) → CanGain l (op s t) p old → Extends l p l.a q → c ≡ plus l.modulus 4 old.constant (applied l.modulus p l.c) → CanGain l s q (form old.matrices c)
   can_left s t p q old c can e d = record {
     variables = omega (arith, can.variables);
     factor_inside = extended_vectors p l.a q e;
     form_inside = record { constant = subst V (sym d) (plus_vector l.modulus 4 some old.constant (applied l.modulus p l.c)); columns = can.form_inside.columns };
   }
 
-  pub can_right : (s t : Tree) (p q r : List (List ℕ)) (old between new : Form) → CanGain l (op s t) p old → Gains l s q between new → Extends p l.b r → CanGain l t r new
+  pub can_right : (s t : Tree) (p q r : List (List ℕ)) (old between new : Form) → CanGain l (op s t) p old → Gains l s q between new → Extends l p l.b r → CanGain l t r new
   can_right s t p q r old between new can gains e = record {
     variables = omega (arith, can.variables);
     factor_inside = extended_vectors p l.b r e;
     form_inside = gains.inside;
   }
 
-  pub gained : (s t : Tree) (p q r : List (List ℕ)) (old new end : Form) (c : List ℕ) → c ≡ plus l.modulus 4 old.constant (applied l.modulus p l.c) → Extends p l.a q → Gains l s q (form old.matrices c) new → Extends p l.b r → Gains l t r new end → Gains l (op s t) p old end
+  pub gained : (s t : Tree) (p q r : List (List ℕ)) (old new end : Form) (c : List ℕ) → c ≡ plus l.modulus 4 old.constant (applied l.modulus p l.c) → Extends l p l.a q → Gains l s q (form old.matrices c) new → Extends l p l.b r → Gains l t r new end → Gains l (op s t) p old end
   gained s t p q r old new end c d e first f second = record {
     inside = second.inside;
     constant =

@@ -8,8 +8,8 @@ use Rattle.std.proofs.Common.{mod-eq_of_lt}
 use Rattle.etp_theory.specs.Trees.{Tree}
 use Rattle.etp_forms.specs.Forms.{coefficient, IsLinear}
 use Rattle.etp_matrix.specs.Magmas.{MatrixMagma, IsMatrixMagma, AreBelow, inside, times, entry, row_times}
-use Rattle.etp_matrix.specs.Values.{affine, plus, product, unit, column_of, matrix_of}
-use Rattle.etp_matrix.specs.Walks.{IsVector, by_columns}
+use Rattle.etp_matrix.specs.Values.{affine, plus, product, unit, column_of, matrix_of, by_columns}
+use Rattle.etp_matrix.specs.Walks.{IsVector}
 use Rattle.etp_matrix.proofs.Sums.{at, past, vectors_same, is_vector, to_vector}
 use Rattle.etp_matrix.proofs.Wide.{below_or}
 use Rattle.etp_matrix.proofs.Modules.{plus_at, product_is_additive, product_unit, coefficient_is_additive, unit_vector, agree, linear}

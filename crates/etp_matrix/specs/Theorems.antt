@@ -4,8 +4,7 @@ use Rattle.etp_theory.specs.Trees.{Tree, Equation, var, op}
 use Rattle.etp_theory.specs.Magmas.{IsClosed, Holds}
 use Rattle.etp_forms.specs.Forms.{coefficient}
 use Rattle.etp_matrix.specs.Magmas.{MatrixMagma, inside, times, IsMatrixMagma}
-use Rattle.etp_matrix.specs.Values.{affine, matrix_of, constant_of, product}
-use Rattle.etp_matrix.specs.Walks.{by_columns}
+use Rattle.etp_matrix.specs.Values.{affine, matrix_of, constant_of, product, by_columns}
 use Rattle.etp_matrix.specs.Judgements.{IsJudged, IsFirstOffence}
 use Rattle.etp_matrix.specs.declared.refusal.MatrixRefusal.{MatrixRefusal}
 

@@ -1,5 +1,5 @@
 -- The linear form of a term's value: a matrix for each variable, and a constant vector.
-use Rattle.std.specs.Prelude.{ℕ, ◌+◌, ◌*◌, ◌%◌, cond, eqb, List, map, slice_index}
+use Rattle.std.specs.Prelude.{ℕ, ◌+◌, ◌*◌, ◌%◌, cond, eqb, List, [], map, slice_index, slice_index_or}
 use Rattle.std.specs.List.{range_with_len}
 use Rattle.etp_theory.specs.Trees.{Tree}
 use Rattle.etp_forms.specs.Forms.{Affine, coefficient, constant}
@@ -35,6 +35,13 @@ affine g = affine_by g.modulus g.size (entry g.size g.a) (entry g.size g.b) g.c
 -- a column of the coefficient matrix of a variable: what the variable adds where it is that unit vector
 abbrev pub column_of : MatrixMagma → Tree → ℕ → ℕ → List ℕ
 column_of g t v k = coefficient (affine g) t v (unit g.modulus g.size k)
+
+abbrev pub column : List (List ℕ) → ℕ → List ℕ
+column matrix k = slice_index_or matrix k []
+
+-- the number in a row and a column of a matrix that is given column by column
+abbrev pub by_columns : List (List ℕ) → ℕ → ℕ → ℕ
+by_columns matrix row k = slice_index (column matrix k) row
 
 -- the coefficient matrix of a variable, column by column
 abbrev pub matrix_of : MatrixMagma → Tree → ℕ → List (List ℕ)

@@ -2,8 +2,8 @@
 use Rattle.std.specs.Prelude.{◌≡◌, ◌≢◌, ℕ, ◌<◌, ◌≤◌, ◌&&◌, nat_lt, cond, List, [], length, slice_index, slice_index_or}
 use Rattle.etp_theory.specs.Trees.{Tree, bound}
 use Rattle.etp_forms.specs.Forms.{Affine, coefficient, constant}
-use Rattle.etp_matrix.specs.Magmas.{MatrixMagma, entry}
-use Rattle.etp_matrix.specs.Values.{plus, product, unit, affine_by, column_of, constant_of}
+use Rattle.etp_matrix.specs.Magmas.{MatrixMagma, vector, entry}
+use Rattle.etp_matrix.specs.Values.{plus, product, unit, affine_by, column, by_columns, column_of, constant_of}
 use Rattle.etp_matrix.specs.Failures.{padded}
 use Rattle.etp_matrix.specs.declared.matrix_linear.MatrixLinear.{MatrixLinear}
 
@@ -11,22 +11,24 @@ pub record IsVector (m size : ℕ) (x : List ℕ) : Type 0 where
   pub long : length x ≡ size
   pub below : (i : ℕ) → i < size → slice_index x i < m
 
-abbrev pub column : List (List ℕ) → ℕ → List ℕ
-column matrix k = slice_index_or matrix k []
-
 abbrev pub AreVectors : ℕ → List (List ℕ) → Type 0
 AreVectors m matrix = (k : ℕ) → k < 4 → IsVector m 4 (column matrix k)
 
 -- a matrix that is given column by column, times a vector
-abbrev pub by_columns : List (List ℕ) → ℕ → ℕ → ℕ
-by_columns matrix row k = slice_index (column matrix k) row
-
 abbrev pub applied : ℕ → List (List ℕ) → List ℕ → List ℕ
 applied m matrix = product m 4 (by_columns matrix)
 
 -- a matrix of the size, with 0 in all other rows and columns
 abbrev pub wide : ℕ → List ℕ → ℕ → ℕ → ℕ
 wide size matrix row column = cond (nat_lt row size && nat_lt column size) (entry size matrix row column) 0
+
+abbrev pub wide_column : ℕ → List ℕ → ℕ → List ℕ
+wide_column size matrix k = vector 4 (λ row. wide size matrix row k)
+
+-- the product of a factor and such a matrix
+abbrev pub Extends : MatrixLinear → List (List ℕ) → List ℕ → List (List ℕ) → Type 0
+Extends l factor matrix new =
+    (k : ℕ) → k < 4 → column new k ≡ applied l.modulus factor (wide_column l.size matrix k)
 
 -- the magma's operation on vectors of four numbers
 abbrev pub wide_affine : MatrixLinear → Affine (List ℕ)

@@ -1,9 +1,8 @@
-ghost use Rattle.std.specs.Prelude.{◌≡◌, ◌≤◌, ◌<◌, ℕ};
+ghost use Rattle.std.specs.Prelude.{◌≤◌, ℕ};
 ghost use Rattle.etp_theory.specs.Trees.{bound};
 ghost use Rattle.etp_term.specs.Terms.{tree_of};
-ghost use Rattle.etp_matrix.specs.Magmas.{IsModulus, vector};
 ghost use Rattle.etp_matrix.specs.Linears.{magma_of};
-ghost use Rattle.etp_matrix.specs.Walks.{form, HasNumbers, CanGain, Gains, IsVector, AreVectors, applied, column, wide};
+ghost use Rattle.etp_matrix.specs.Walks.{form, HasNumbers, CanGain, Gains, IsVector, AreVectors, Extends, wide_column};
 
 use crate::matrix_linear::MatrixLinear;
 use crate::parts::{Columns, Matrices, Vector};
@@ -45,8 +44,8 @@ impl MatrixLinear {
     /// The factor times a matrix that is given row by row.
     fn extended(&self, factor: &Columns, matrix: &[u32; 16]) -> Columns
         requires factor { AreVectors self.now.modulus factor.now }
-        requires matrix { (k : ℕ) → IsVector self.now.modulus 4 (vector 4 (λ row. wide self.now.size matrix.now row k)) }
-        ensures { (k : ℕ) → k < 4 → column result k ≡ applied self.now.modulus factor.now (vector 4 (λ row. wide self.now.size matrix.now row k)) }
+        requires matrix { (k : ℕ) → IsVector self.now.modulus 4 (wide_column self.now.size matrix.now k) }
+        ensures { Extends self.now factor.now matrix.now result }
     {
         product(factor, &columns_of_rows(matrix, self.size), self.modulus)
     }

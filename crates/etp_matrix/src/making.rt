@@ -1,4 +1,4 @@
-ghost use Rattle.std.specs.Prelude.{◌≡◌, ◌≤◌, ◌<◌, ◌*◌, ◌++◌, ℕ, IfOk, OnOk, IfErr, MatchOption, length, drop, slice_get, slice_index, Some};
+ghost use Rattle.std.specs.Prelude.{◌≡◌, ◌≤◌, ◌++◌, IfOk, OnOk, IfErr, MatchOption, length, drop};
 ghost use Rattle.etp_matrix.specs.Magmas.{IsMatrixMagma, IsModulus, IsShape, AreBelow};
 ghost use Rattle.etp_matrix.specs.Linears.{magma_of};
 ghost use Rattle.etp_matrix.specs.Judgements.{IsOutOfRange};

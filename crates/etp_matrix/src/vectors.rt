@@ -1,8 +1,8 @@
 //! Vectors of four numbers modulo a number, and matrices column by column.
 ghost use Rattle.std.specs.Prelude.{◌≡◌, ℕ, ◌+◌, ◌*◌, ◌%◌, ◌<◌, ◌≤◌, slice_index};
-ghost use Rattle.etp_matrix.specs.Magmas.{IsModulus, vector, sum_below};
-ghost use Rattle.etp_matrix.specs.Values.{plus, unit};
-ghost use Rattle.etp_matrix.specs.Walks.{IsVector, AreVectors, column, by_columns, applied, wide};
+ghost use Rattle.etp_matrix.specs.Magmas.{IsModulus, sum_below};
+ghost use Rattle.etp_matrix.specs.Values.{plus, unit, column, by_columns};
+ghost use Rattle.etp_matrix.specs.Walks.{IsVector, AreVectors, applied, wide, wide_column};
 
 use crate::parts::{Columns, Vector};
 
@@ -107,7 +107,7 @@ fn entry_or_zero(matrix: &[u32; 16], size: u8, row: u8, column: u8) -> u32
 /// A column of a matrix that is given row by row.
 fn column_of_rows(matrix: &[u32; 16], size: u8, column: u8) -> Vector
     requires { size ≤ 4 }
-    ensures { result ≡ vector 4 (λ row. wide size matrix.now row column) }
+    ensures { result ≡ wide_column size matrix.now column }
 {
     [
         entry_or_zero(matrix, size, 0, column),
@@ -120,7 +120,7 @@ fn column_of_rows(matrix: &[u32; 16], size: u8, column: u8) -> Vector
 /// The columns of a matrix that is given row by row.
 pub(crate) fn columns_of_rows(matrix: &[u32; 16], size: u8) -> Columns
     requires { size ≤ 4 }
-    ensures { (k : ℕ) → k < 4 → column result k ≡ vector 4 (λ row. wide size matrix.now row k) }
+    ensures { (k : ℕ) → k < 4 → column result k ≡ wide_column size matrix.now k }
 {
     [
         column_of_rows(matrix, size, 0),

@@ -5,9 +5,10 @@ use Rattle.etp_theory.specs.Trees.{var, op, ops}
 use Rattle.etp_term.specs.Terms.{tree_of}
 use Rattle.etp_term.specs.declared.term.Term.{Term}
 use Rattle.etp_term.proofs.Opened.{tree_of-var, tree_of-op}
-use Rattle.etp_matrix.specs.Values.{plus}
-use Rattle.etp_matrix.specs.Walks.{applied, CanGain, Gains, form, column}
-use Rattle.etp_matrix.proofs.Growth.{wide_column, some, can_left, can_right, gained, gained_var}
+use Rattle.etp_matrix.specs.Values.{plus, column, by_columns}
+use Rattle.etp_matrix.specs.Walks.{IsVector, applied, CanGain, Gains, form}
+use Rattle.etp_matrix.proofs.Modules.{product_vector}
+use Rattle.etp_matrix.proofs.Growth.{wide_vector, some, can_left, can_right, gained, gained_var}
 use Rattle.etp_matrix.proofs.matrix_linear.MatrixLinear.+gain.Goals as goal
 
 left_less : (m n : ℕ) → m < m + n + 1
@@ -16,17 +17,23 @@ left_less m n = omega arith
 right_less : (m n : ℕ) → n < m + n + 1
 right_less m n = omega arith
 
+pub sum-requires-clause-y : goal.sum-requires-clause-y
+sum-requires-clause-y t c =
+    let l = c.args.self.now in
+    let long : length l.c ≡ 4 = search rules in
+    subst (IsVector l.modulus 4) (sym c.apply-added.ensures) (product_vector l.modulus 4 (some l long) (by_columns c.args.factor.now) l.c)
+
 pub extended-to_left-requires-clause-matrix : goal.extended-to_left-requires-clause-matrix
 extended-to_left-requires-clause-matrix t c =
     let l = c.args.self.now in
     let long : length l.c ≡ 4 = search rules in
-    λ k. wide_column l.modulus l.size l.a (some l long) l.in_range.a_below k
+    λ k. wide_vector l.modulus l.size l.a (some l long) l.in_range.a_below k
 
 pub extended-to_right-requires-clause-matrix : goal.extended-to_right-requires-clause-matrix
 extended-to_right-requires-clause-matrix t c =
     let l = c.args.self.now in
     let long : length l.c ≡ 4 = search rules in
-    λ k. wide_column l.modulus l.size l.b (some l long) l.in_range.b_below k
+    λ k. wide_vector l.modulus l.size l.b (some l long) l.in_range.b_below k
 
 pub gain-requires : goal.gain-requires
 gain-requires t c =
