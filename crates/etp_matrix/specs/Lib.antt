@@ -1,0 +1,9 @@
+pub mod Magmas
+pub mod Values
+pub mod Linears
+pub mod Failures
+pub mod Judgements
+pub mod Walks
+pub mod Theorems
+pub mod Sound
+pub mod Making
