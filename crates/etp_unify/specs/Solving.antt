@@ -1,5 +1,5 @@
 -- Pairs of terms that are to be made equal.
-use Rattle.std.specs.Prelude.{◌≡◌, ◌≢◌, ◌↔◌, ℕ, List, [], ◌∷◌, Option, Some, None}
+use Rattle.std.specs.Prelude.{◌≡◌, ◌≢◌, ◌↔◌, ℕ, List, [], ◌∷◌, Option, Some, None, Bool, true, false}
 use Rattle.etp_theory.specs.Trees.{Tree, var}
 use Rattle.etp_theory.specs.Substitutions.{apply, Partial}
 use Rattle.etp_term.specs.Terms.{tree_of}
@@ -30,7 +30,8 @@ pub record IsDifference (values : Partial) (before after : List Pair) (x : ℕ) 
 -- with no difference, what respects the values makes the pairs equal
 abbrev pub IsNext : Partial → List Pair → List Pair → Option Difference → Type 0
 IsNext values before after None = (n : ℕ → Tree) → Respects n values → Equates n before
-IsNext values before after (Some d) = IsDifference values before after d.variable (tree_of d.value.now)
+IsNext values before after (Some d) =
+    IsDifference values before after d.variable (tree_of d.value.now)
 
 -- the later values are respected exactly by what respects the earlier ones and makes all equal
 pub record AreSolved (pairs : List Pair) (earlier later : List Binding) : Type 0 where
@@ -40,4 +41,9 @@ pub record AreSolved (pairs : List Pair) (earlier later : List Binding) : Type 0
       ↔ Respects n (partial_of later)
 
 abbrev pub HaveNoSolution : List Pair → List Binding → Type 0
-HaveNoSolution pairs values = (n : ℕ → Tree) → Respects n (partial_of values) → Equates n pairs → ⊥
+HaveNoSolution pairs values =
+    (n : ℕ → Tree) → Respects n (partial_of values) → Equates n pairs → ⊥
+
+abbrev pub IsOutcome : List Pair → List Binding → List Binding → Bool → Type 0
+IsOutcome pairs earlier later true = AreSolved pairs earlier later
+IsOutcome pairs earlier later false = HaveNoSolution pairs earlier

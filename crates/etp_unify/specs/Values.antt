@@ -8,12 +8,17 @@ use Rattle.etp_unify.specs.Triangular.{solution}
 -- from a variable to its value, as often as wanted
 pub data Leads (values : Partial) : Tree → Tree → Type 0 where
   here : (t : Tree) → Leads values t t
-  further : (v : ℕ) (t u : Tree) → values.value v ≡ Some t → Leads values t u → Leads values (var v) u
+  further : (v : ℕ) (t u : Tree) → values.value v ≡ Some t → Leads values t u
+      → Leads values (var v) u
 
 -- it leads there, and from there no further
 pub record IsEnd (values : Partial) (s t : Tree) : Type 0 where
   pub leads : Leads values s t
   pub last : (v : ℕ) → t ≡ var v → values.value v ≡ None
+
+-- the variable stands in the term once all values are put in
+abbrev pub StandsIn : List Binding → ℕ → Tree → Type 0
+StandsIn bindings x t = Occurs x (apply (solution bindings) t)
 
 -- no marked variable has the given one in its value
 abbrev pub AreWithout : List Binding → ℕ → List Bool → Type 0

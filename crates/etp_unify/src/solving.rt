@@ -1,13 +1,14 @@
 //! Pairs of terms that are to be made equal, one variable after the other.
 
-ghost use Rattle.std.specs.Prelude.{◌≡◌, IfOk, true, false};
+ghost use Rattle.std.specs.Prelude.{◌≡◌, IfOk};
 ghost use Rattle.etp_match.specs.Bindings.{partial_of};
 ghost use Rattle.etp_unify.specs.Triangular.{IsTriangular, HasSmallVariables};
-ghost use Rattle.etp_unify.specs.Solving.{IsNext, AreSolved, HaveNoSolution};
+ghost use Rattle.etp_unify.specs.Solving.{IsNext, IsOutcome};
 
-use crate::values::{end_of, stands_in};
+use crate::values::{MANY_LEAVES, end_of, leaves_of_all, stands_in};
 use etp_match::Bindings;
 use etp_term::{NoMemory, Term};
+use std::alloc::AllocError;
 
 /// Two terms that are to be made equal.
 #[derive(Clone, Copy)]
@@ -23,13 +24,21 @@ struct Difference<'t> {
     value: &'t Term,
 }
 
+impl<'t> Difference<'t> {
+    fn of(variable: u8, value: &'t Term) -> Difference<'t>
+        ensures { result ≡ record { variable = variable; value = value.entry } }
+    {
+        Difference { variable, value }
+    }
+}
+
 /// Gives values to variables until all pairs are equal under them; false where nothing makes them
-/// equal.
+/// equal. Values that come to `MANY_LEAVES` once all are put in are refused at once: they wouldn't
+/// be built, and to compare them may take as long as to build them.
 pub(crate) fn solve<'t>(bindings: &mut Bindings<'t>, pairs: Vec<Pair<'t>>) -> Result<bool, NoMemory>
     requires triangular { IsTriangular bindings.old }
     requires small { HasSmallVariables bindings.old }
-    ensures yes { IfOk result (λ b. b ≡ true → AreSolved pairs.entry.items bindings.old bindings.new) }
-    ensures no { IfOk result (λ b. b ≡ false → HaveNoSolution pairs.entry.items bindings.old) }
+    ensures { IfOk result (IsOutcome pairs.entry.items bindings.old bindings.new) }
 {
     let mut left = pairs;
     loop {
@@ -40,6 +49,9 @@ pub(crate) fn solve<'t>(bindings: &mut Bindings<'t>, pairs: Vec<Pair<'t>>) -> Re
             return Ok(false);
         }
         bindings.bind(difference.variable, difference.value);
+        if leaves_of_all(bindings) == MANY_LEAVES {
+            return Err(AllocError);
+        }
     }
 }
 
@@ -49,42 +61,27 @@ fn next_difference<'t>(
     pairs: &mut Vec<Pair<'t>>,
 ) -> Result<Option<Difference<'t>>, NoMemory>
     requires { IsTriangular bindings.now }
-    ensures { IfOk result (λ d. IsNext (partial_of bindings.now) pairs.old.items pairs.new.items d) }
+    ensures { IfOk result (IsNext (partial_of bindings.now) pairs.old.items pairs.new.items) }
 {
     while let Some(pair) = pairs.pop() {
         let left = end_of(bindings, pair.left);
         let right = end_of(bindings, pair.right);
         match (left, right) {
             (Term::Op(a, b), Term::Op(c, d)) => {
-                pairs.push(Pair {
-                    left: b.get(),
-                    right: d.get(),
-                })?;
-                pairs.push(Pair {
-                    left: a.get(),
-                    right: c.get(),
-                })?;
+                let left = b.get();
+                let right = d.get();
+                pairs.push(Pair { left, right })?;
+                let left = a.get();
+                let right = c.get();
+                pairs.push(Pair { left, right })?;
             }
             (Term::Var(v), Term::Var(w)) => {
                 if *v != *w {
-                    return Ok(Some(Difference {
-                        variable: *v,
-                        value: right,
-                    }));
+                    return Ok(Some(Difference::of(*v, right)));
                 }
             }
-            (Term::Var(v), Term::Op(_, _)) => {
-                return Ok(Some(Difference {
-                    variable: *v,
-                    value: right,
-                }));
-            }
-            (Term::Op(_, _), Term::Var(w)) => {
-                return Ok(Some(Difference {
-                    variable: *w,
-                    value: left,
-                }));
-            }
+            (Term::Var(v), Term::Op(_, _)) => return Ok(Some(Difference::of(*v, right))),
+            (Term::Op(_, _), Term::Var(w)) => return Ok(Some(Difference::of(*w, left))),
         }
     }
     Ok(None)

@@ -55,3 +55,30 @@ fn deep_terms_are_unified(rt: HostRuntime) {
     let unified = unify(alloc, &of_x, &shorter).expect(&rt, "memory");
     assert!(rt; matches!(&unified, Unified::Never));
 }
+
+/// Two combs that make each variable the operation of the one before it with itself.
+fn doubled(alloc: Global, variables: u8) -> Result<(Term, Term), NoMemory> {
+    let mut left = Term::Var(0);
+    let mut right = Term::Var(0);
+    for v in 1..variables {
+        let square = op(alloc, Term::Var(v - 1), Term::Var(v - 1))?;
+        left = op(alloc, Term::Var(v), left)?;
+        right = op(alloc, square, right)?;
+    }
+    Ok((left, right))
+}
+
+#[test]
+fn values_of_too_many_leaves_are_not_built(rt: HostRuntime) {
+    let alloc = rt.alloc();
+    let (left, right) = doubled(alloc, 4).expect(&rt, "memory");
+    match unify(alloc, &left, &right).expect(&rt, "memory") {
+        Unified::Never => assert!(rt; false),
+        Unified::Most(subst) => {
+            let value = subst.get(3).expect(&rt, "a value");
+            assert_eq!(rt; value.leaves(), 8);
+        }
+    }
+    let (left, right) = doubled(alloc, 100).expect(&rt, "memory");
+    assert!(rt; unify(alloc, &left, &right).is_err());
+}

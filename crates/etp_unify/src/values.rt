@@ -2,20 +2,20 @@
 //! inside its own value.
 
 ghost use Rattle.std.specs.Prelude.{◌≡◌, IsTrue, IfOk, OnOk, length, None, false};
-ghost use Rattle.etp_theory.specs.Trees.{Occurs};
 ghost use Rattle.etp_theory.specs.Substitutions.{apply};
 ghost use Rattle.etp_term.specs.Terms.{tree_of};
 ghost use Rattle.etp_match.specs.Bindings.{partial_of};
-ghost use Rattle.etp_unify.specs.Triangular.{solution, IsTriangular, HasSmallVariables, HasSolution, IsPut};
-ghost use Rattle.etp_unify.specs.Values.{IsEnd, AreWithout, counted, AreCounted, AreWithin};
+ghost use Rattle.etp_unify.specs.Triangular.{solution, IsTriangular, HasSmallVariables};
+ghost use Rattle.etp_unify.specs.Triangular.{HasSolution, IsPut};
+ghost use Rattle.etp_unify.specs.Values.{IsEnd, StandsIn, AreWithout, counted, AreCounted, AreWithin};
 
 use etp_match::{Bindings, Subst};
 use etp_term::{NoMemory, Term};
 use sqlite_items::Boxed;
-use std::alloc::{AllocError, Global};
+use std::alloc::Global;
 
 /// So many leaves are not built.
-const MANY_LEAVES: u64 = 4294967296;
+pub(crate) const MANY_LEAVES: u64 = 4294967296;
 
 /// Where a term leads: an operation, or a variable without a value.
 pub(crate) fn end_of<'t>(bindings: &Bindings<'t>, term: &'t Term) -> &'t Term
@@ -38,8 +38,8 @@ pub(crate) fn end_of<'t>(bindings: &Bindings<'t>, term: &'t Term) -> &'t Term
 pub(crate) fn stands_in(bindings: &Bindings, variable: u8, term: &Term) -> bool
     requires triangular { IsTriangular bindings.now }
     requires free { (partial_of bindings.now).value variable ≡ None }
-    ensures yes { IsTrue result → Occurs variable (apply (solution bindings.now) (tree_of term.now)) }
-    ensures no { result ≡ false → Occurs variable (apply (solution bindings.now) (tree_of term.now)) → ⊥ }
+    ensures yes { IsTrue result → StandsIn bindings.now variable (tree_of term.now) }
+    ensures no { result ≡ false → StandsIn bindings.now variable (tree_of term.now) → ⊥ }
 {
     let mut without = [false; 256];
     stands_below(bindings, variable, term, &mut without)
@@ -52,8 +52,8 @@ fn stands_below(bindings: &Bindings, variable: u8, term: &Term, without: &mut [b
     requires free { (partial_of bindings.now).value variable ≡ None }
     requires size { length without.old ≡ 256 }
     requires marked { AreWithout bindings.now variable without.old }
-    ensures yes { IsTrue result → Occurs variable (apply (solution bindings.now) (tree_of term.now)) }
-    ensures no { result ≡ false → Occurs variable (apply (solution bindings.now) (tree_of term.now)) → ⊥ }
+    ensures yes { IsTrue result → StandsIn bindings.now variable (tree_of term.now) }
+    ensures no { result ≡ false → StandsIn bindings.now variable (tree_of term.now) → ⊥ }
     ensures marked { AreWithout bindings.now variable without.new }
 {
     match term {
@@ -129,7 +129,7 @@ fn resolved(alloc: Global, bindings: &Bindings, term: &Term) -> Result<Term, NoM
 }
 
 /// How many leaves all variables have together once all values are put in, up to `MANY_LEAVES`.
-fn leaves_of_all(bindings: &Bindings) -> u64
+pub(crate) fn leaves_of_all(bindings: &Bindings) -> u64
     requires { IsTriangular bindings.now }
     ensures { AreWithin bindings.now 256 result }
 {
@@ -159,15 +159,12 @@ fn put_resolved(
     Ok(())
 }
 
-/// The substitution that the values stand for. One that has `MANY_LEAVES` is not built.
+/// The substitution that the values stand for.
 pub(crate) fn subst_of(alloc: Global, bindings: &Bindings) -> Result<Subst, NoMemory>
     requires triangular { IsTriangular bindings.now }
     requires small { HasSmallVariables bindings.now }
     ensures { IfOk result (λ m. HasSolution bindings.now m) }
 {
-    if leaves_of_all(bindings) == MANY_LEAVES {
-        return Err(AllocError);
-    }
     let mut subst = Subst::empty(alloc)?;
     for v in 0..=255u8 {
         put_resolved(alloc, bindings, v, &mut subst)?;
