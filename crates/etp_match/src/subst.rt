@@ -1,4 +1,4 @@
-ghost use Rattle.std.specs.Prelude.{◌≡◌, ◌++◌, [], IfOk, OnOk, OnErr, map};
+ghost use Rattle.std.specs.Prelude.{◌≡◌, ◌∷◌, ◌++◌, [], None, IfOk, OnOk, OnErr, map};
 ghost use Rattle.std.specs.Option.{option_copied, option_map};
 ghost use Rattle.etp_theory.specs.Substitutions.{apply, total};
 ghost use Rattle.etp_term.specs.Terms.{tree_of};
@@ -67,6 +67,16 @@ impl Subst {
                 Ok(Term::Op(Boxed::new(alloc, left)?, Boxed::new(alloc, right)?))
             }
         }
+    }
+
+    /// Gives a value to a variable that has none.
+    pub fn bind(&mut self, variable: u8, value: Term) -> Result<(), NoMemory>
+        requires { (partial_of self.old).value variable ≡ None }
+        ensures ok { OnOk result (self.new ≡ self.old ++ (record { variable = variable; value = value }) ∷ []) }
+        ensures err { OnErr result (self.new ≡ self.old) }
+    {
+        self.bindings.push(Binding { variable, value })?;
+        Ok(())
     }
 
     /// All values, in order.

@@ -106,7 +106,7 @@ impl<'t> Bindings<'t> {
     }
 
     /// Gives a value to a variable that has none.
-    fn bind(&mut self, variable: u8, value: &'t Term)
+    pub fn bind(&mut self, variable: u8, value: &'t Term)
         requires { (partial_of self.old).value variable ≡ None }
         ensures { self.new ≡ self.old ++ (record { variable = variable; value = value.now }) ∷ [] }
     {

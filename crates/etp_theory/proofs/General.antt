@@ -7,7 +7,9 @@ use Rattle.etp_theory.specs.Overlaps.{Overlap, outer_part, inner_part}
 use Rattle.etp_theory.specs.FailingOverlaps.{IsCriticalPair, KeepsApart}
 use Rattle.etp_theory.proofs.Trees.{composed}
 use Rattle.etp_theory.proofs.Matching.{apply_agree}
-use Rattle.etp_theory.proofs.Unifiers.{Mgu, unify, limit, finite, partial_of, total_of, partial_mgu, apply_same, occurs_bound, occurs_dec, eq_or_ne}
+use Rattle.etp_theory.specs.Theorems.{UnificationLaws}
+use Rattle.etp_theory.proofs.Finite.{finite_enough}
+use Rattle.etp_theory.proofs.Unifiers.{Mgu, mgu, unify, general, best_of, limit, finite, partial_of, total_of, partial_mgu, apply_same, occurs_bound, occurs_dec, eq_or_ne}
 use Rattle.etp_theory.proofs.Sameness.{renamed_applied}
 use Rattle.etp_theory.proofs.Renaming.{right_through}
 use Rattle.etp_theory.proofs.Places.{first_below}
@@ -43,6 +45,23 @@ partial_general m a b g = record { unifies = g.unifies; factors = factor }
 
 pub general_finite : (m : Partial) (a b : Tree) → IsMostGeneralPartial m a b ↔ IsMostGeneral (total m) a b
 general_finite m a b = (total_general m a b, partial_general m a b)
+
+-- a finite one that is itself when applied twice, or none
+decided : (a b : Tree) → Mgu a b ⊎ NoUnifier a b → ((m : Partial) × IsMostGeneralPartial m a b × ((v : ℕ) → apply (total m) (total m v) ≡ total m v)) ⊎ NoUnifier a b
+decided a b (inl p) =
+    let t = total_of p.by (limit a b) (finite a b p) in
+    inl (partial_of p.by (limit a b), partial_mgu a b p, λ v. ap (apply (total (partial_of p.by (limit a b)))) (t v) ∙ apply_same _ p.by t (p.by v) ∙ p.absorbed p.by p.unifies v ∙ sym (t v))
+decided a b (inr h) = inr h
+
+pub laws_of_unifiers : UnificationLaws
+laws_of_unifiers = record {
+  most_general = λ a b n e. let m = mgu a b n e in (m.by, general a b m);
+  partial = λ a b n e. let m = finite_enough n a b in (m.0, m.1 ∙ e ∙ sym m.2);
+  decided = λ a b. decided a b (unify a b);
+  finite = general_finite;
+  best = general_of_best;
+  has_best = λ a b n e. let m = mgu a b n e in (m.by, best_of a b m);
+}
 
 -- other names
 

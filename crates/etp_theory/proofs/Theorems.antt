@@ -1,9 +1,10 @@
 -- Theorems as values, which the proofs of other crates cite: they rest on the statements of
 -- `specs/Theorems.antt` alone.
-use Rattle.etp_theory.specs.Theorems.{TermLaws, PositionLaws, ProofLaws, ReachLaws}
+use Rattle.etp_theory.specs.Theorems.{TermLaws, PositionLaws, ProofLaws, UnificationLaws, ReachLaws}
 use Rattle.etp_theory.proofs.Orders as Orders
 use Rattle.etp_theory.proofs.Trees as Trees
 use Rattle.etp_theory.proofs.Proofs as Proofs
+use Rattle.etp_theory.proofs.General as General
 use Rattle.etp_theory.proofs.Reaching as Reaching
 
 pub term_laws : TermLaws
@@ -30,6 +31,9 @@ proof_laws = record {
   concluded = λ e cites ls h r k l q. Proofs.concluded e cites h ls r k l q;
   proved = λ e f cites ls h v. Proofs.proved e cites h f ls v;
 }
+
+pub unification_laws : UnificationLaws
+unification_laws = General.laws_of_unifiers
 
 pub reach_laws : ReachLaws
 reach_laws = record {

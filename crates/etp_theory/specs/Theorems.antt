@@ -228,6 +228,9 @@ pub record UnificationLaws : Type 0 where
       → IsMostGeneralPartial m a b ↔ IsMostGeneral (total m) a b
   -- a best one is most general
   pub best : (a b : Tree) (m : ℕ → Tree) → IsBest m a b → IsMostGeneral m a b
+  -- what has a unifier has a best one
+  pub has_best : (a b : Tree) (n : ℕ → Tree) → apply n a ≡ apply n b
+      → (m : ℕ → Tree) × IsBest m a b
 
 pub record CriticalPairLaws : Type 0 where
   pub joined : (w : Weight) (rules : List Equation) → AllDecrease w rules

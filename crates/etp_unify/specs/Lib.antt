@@ -1,0 +1,4 @@
+pub mod Triangular
+pub mod Values
+pub mod Solving
+pub mod Unifying
