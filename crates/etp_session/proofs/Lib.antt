@@ -3,5 +3,6 @@ pub mod SessionLemmas
 pub mod ListingLemmas
 pub mod OneText
 pub mod Running
+pub mod EndLemmas
 pub mod ShelfReading
 pub mod LoadAnswers

@@ -22,7 +22,7 @@ use Rattle.etp_session.specs.Sessions.{Item, Session, IsWholeSession, AnswersLin
 use Rattle.etp_session.specs.declared.serving.Ending.{Ending}
 use Rattle.etp_session.specs.declared.serving.Ending.TheVariants.{Done, ReadFault, WriteFault, NoMemory, TooMuch}
 use Rattle.etp_reply.specs.Given.{GivesReply, GivesClose}
-use Rattle.etp_session.specs.Endings.{IsDone, IsCut, IsEnd, line_text, WritesNothing, WritesClose, WritesSomeOfClose}
+use Rattle.etp_session.specs.Endings.{IsDone, line_text, WritesNothing, WritesClose, WritesSomeOfClose}
 use Rattle.etp_session.specs.Ends.{WritesPrefix, WritesWholeLines, EndsWell, Takes, TakesWithin, StopsAtFault, StopsAtName}
 use Rattle.etp_session.proofs.Parts.{to_last_newline-both, to_last_newline-take}
 use Rattle.etp_session.proofs.SessionLemmas.{Session-then, items_from-append}
@@ -404,35 +404,6 @@ done-close ReadFault P Q h f = tt
 done-close WriteFault P Q h f = tt
 done-close NoMemory P Q h f = tt
 done-close TooMuch P Q h f = tt
-
-pub cut-close : (r : Ending) (P : Type 0) → IsEnd r → (r ≡ NoMemory → P) → (r ≡ WriteFault → P) → IsCut r P
-cut-close (Done bad) P h m w = tt
-cut-close ReadFault P h m w = absurd h
-cut-close WriteFault P h m w = w refl
-cut-close NoMemory P h m w = m refl
-cut-close TooMuch P h m w = absurd h
-
--- an end before a reply was written
-pub not_done : (r : Ending) (P : Bool → Type 0) → (r ≡ NoMemory) ⊎ ((r ≡ ReadFault) ⊎ (r ≡ TooMuch)) → IsDone r P
-not_done r P (inl e) = rw e tt
-not_done r P (inr (inl e)) = rw e tt
-not_done r P (inr (inr e)) = rw e tt
-
-pub cut_before : (r : Ending) (P : Type 0) → (r ≡ NoMemory) ⊎ ((r ≡ ReadFault) ⊎ (r ≡ TooMuch)) → P → IsCut r P
-cut_before r P (inl e) p = rw e p
-cut_before r P (inr (inl e)) p = rw e tt
-cut_before r P (inr (inr e)) p = rw e tt
-
-pub no_write : (r : Ending) → (r ≡ NoMemory) ⊎ ((r ≡ ReadFault) ⊎ (r ≡ TooMuch)) → r ≡ WriteFault → ⊥
-no_write r (inl e) w = let x : NoMemory ≡ WriteFault = sym e ∙ w in absurd (cc)
-no_write r (inr (inl e)) w = let x : ReadFault ≡ WriteFault = sym e ∙ w in absurd (cc)
-no_write r (inr (inr e)) w = let x : TooMuch ≡ WriteFault = sym e ∙ w in absurd (cc)
-
-pub no_read : (r : Ending) → IsEnd r → r ≡ ReadFault → ⊥
-no_read r h e = rw e at h
-
-pub no_limit : (r : Ending) → IsEnd r → r ≡ TooMuch → ⊥
-no_limit r h e = rw e at h
 
 -- it ends between two lines
 pub ends-between : (s : KnownShelf) (told left : Option (List ℕ)) (last : ℕ) (took0 took : Option (List ℕ)) (g0 g : ℕ) (r : Reader) (bad : Bool) (IsNow : State → Type 0)
