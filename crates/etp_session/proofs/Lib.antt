@@ -1,5 +1,6 @@
 pub mod Parts
 pub mod SessionLemmas
+pub mod WritingLemmas
 pub mod ListingLemmas
 pub mod OneText
 pub mod Running

@@ -3,7 +3,7 @@ ghost use Rattle.std.specs.String.{string_bytes};
 ghost use Rattle.etp_io.specs.Causes.{Rose};
 ghost use Rattle.etp_command.specs.Arguments.{task_of, IsTask};
 ghost use Rattle.etp_command.specs.Values.{operations_of};
-ghost use Rattle.etp_session.specs.Listings.{ListsLaws};
+ghost use Rattle.etp_session.specs.Listings.{WritesLaws};
 ghost use Rattle.etp_session.specs.Streams.{streams};
 ghost use Rattle.etp_session.specs.Sessions.{IsSession, IsWholeSession};
 ghost use Rattle.etp_session.specs.SessionEnds.{SessionEnds};
@@ -46,7 +46,7 @@ pub fn run<S: Source, K: Sink, H: Shelf>(
 
     // The list of laws: at 0 all was written, at 4 and 5 a prefix, and nothing was read.
     ensures laws { (order : ListOrder) → IsTask (map string_bytes words.now) (Task.Laws order)
-        → ListsLaws (operations_of order) (K.took sink.old) (K.took sink.new) result }
+        → WritesLaws (operations_of order) (K.took sink.old) (K.took sink.new) result }
     ensures unread { (IsTask (map string_bytes words.now) Task.Session → ⊥)
         → (source.new ≡ source.old) × (shelf.new ≡ shelf.old) }
 
