@@ -3,6 +3,8 @@ pub mod SessionLemmas
 pub mod WritingLemmas
 pub mod ListingLemmas
 pub mod OneText
+pub mod Taking
+pub mod GivenTexts
 pub mod Running
 pub mod EndLemmas
 pub mod ShelfReading

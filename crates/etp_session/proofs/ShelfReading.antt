@@ -24,7 +24,7 @@ use Rattle.etp_session.specs.Loads.{with_lines, LoadedLines}
 use Rattle.etp_desk.specs.declared.opened.Opened.{Opened}
 use Rattle.etp_filing.specs.declared.filing.Filing.{Filing}
 use Rattle.etp_session.proofs.Parts.{to_last_newline-both}
-use Rattle.etp_session.proofs.Running.{takes-more, rises-by_none, no_part, at-end, says-line}
+use Rattle.etp_session.proofs.Taking.{takes-more, rises-by_none, no_part, at-end, says-line}
 
 -- a part of the bytes has these body lines, and others are to come
 pub record PartLines (ended : Bool) (bytes coming : List ℕ) (lines : List LineText) : Type 0 where

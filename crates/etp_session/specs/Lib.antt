@@ -1,4 +1,5 @@
 pub mod Streams
+pub mod Protocols
 pub mod Sessions
 pub mod Ends
 pub mod SessionEnds

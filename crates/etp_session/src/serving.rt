@@ -10,6 +10,7 @@ ghost use Rattle.etp_reply.specs.Desks.{IsDesk, IsSound, HasRightLaws};
 ghost use Rattle.etp_session.specs.Loads.{LoadsLong};
 ghost use Rattle.etp_session.specs.Endings.{line_text, WritesNothing, WritesClose, WritesSomeOfClose, IsDone, IsEnd, status_of};
 ghost use Rattle.etp_session.specs.Streams.{streams};
+ghost use Rattle.etp_session.specs.Protocols.{ledger_protocol};
 ghost use Rattle.etp_session.specs.SessionEnds.{SessionEnds};
 
 use crate::loading::load;
@@ -148,7 +149,7 @@ fn serve<S: Source, K: Sink, H: Shelf>(
     shelf: &mut H,
 ) -> Ending
     requires { limit ≤ 134217728 }
-    ensures { SessionEnds (known limit (H.keeps shelf.old))
+    ensures { SessionEnds (ledger_protocol (known limit (H.keeps shelf.old)))
         (streams S.Source K.Sink H.Shelf source.old sink.old shelf.old)
         (streams S.Source K.Sink H.Shelf source.new sink.new shelf.new) (status_of result) }
 {
@@ -203,7 +204,7 @@ pub fn session<S: Source, K: Sink, H: Shelf>(
     shelf: &mut H,
 ) -> u8
     requires { limit ≤ 134217728 }
-    ensures { SessionEnds (known limit (H.keeps shelf.old))
+    ensures { SessionEnds (ledger_protocol (known limit (H.keeps shelf.old)))
         (streams S.Source K.Sink H.Shelf source.old sink.old shelf.old)
         (streams S.Source K.Sink H.Shelf source.new sink.new shelf.new) result }
 {

@@ -5,6 +5,7 @@ ghost use Rattle.etp_command.specs.Arguments.{task_of, IsTask};
 ghost use Rattle.etp_command.specs.Values.{operations_of};
 ghost use Rattle.etp_session.specs.Listings.{WritesLaws};
 ghost use Rattle.etp_session.specs.Streams.{streams};
+ghost use Rattle.etp_session.specs.Protocols.{ledger_protocol};
 ghost use Rattle.etp_session.specs.Sessions.{IsSession, IsWholeSession};
 ghost use Rattle.etp_session.specs.SessionEnds.{SessionEnds};
 ghost use Rattle.etp_io.specs.Kept.{kept_or_empty};
@@ -36,9 +37,10 @@ pub fn run<S: Source, K: Sink, H: Shelf>(
     ensures untouched { result ≡ 2
         → (source.new ≡ source.old) × (sink.new ≡ sink.old) × (shelf.new ≡ shelf.old) }
 
-    // A session: the whole text was written at 0 and 1, and what holds at each other status.
+    // A session: `SessionEnds` says what each status means, and at 0 and 1 (`well`, `refused`) that the
+    // whole text was written.
     ensures session { IsTask (map string_bytes words.now) Task.Session
-        → SessionEnds (known 134217728 (H.keeps shelf.old))
+        → SessionEnds (ledger_protocol (known 134217728 (H.keeps shelf.old)))
         (streams S.Source K.Sink H.Shelf source.old sink.old shelf.old)
         (streams S.Source K.Sink H.Shelf source.new sink.new shelf.new) result }
     ensures sessions { (result ≡ 1) ⊎ ((result ≡ 3) ⊎ (result ≡ 6))
@@ -66,8 +68,10 @@ pub fn run<S: Source, K: Sink, H: Shelf>(
 /// have are equal, and both have a refusal line or neither has.
 pub fn one_text()
     ensures { (limit : ℕ) (kept : List ℕ → Option (List ℕ)) (bytes text other : List ℕ)
-        (refused also : Bool) → IsSession (known limit (Some kept)) bytes text refused
-        → IsSession (known limit (Some kept)) bytes other also → (text ≡ other) × (refused ≡ also) }
+        (refused also : Bool)
+        → IsSession (ledger_protocol (known limit (Some kept))) bytes text refused
+        → IsSession (ledger_protocol (known limit (Some kept))) bytes other also
+        → (text ≡ other) × (refused ≡ also) }
 {}
 
 /// Does what the words ask over forms in memory that never fail: a source of these bytes, a sink
@@ -79,10 +83,14 @@ pub fn run_in_memory(alloc: Global, words: &[String], bytes: Vec<u8>, shelf: &mu
     requires names_within { (name : List ℕ)
         → length (kept_or_empty shelf.old.entries.items name) ≤ 134217728 }
     ensures statuses { (result ≡ 0) ⊎ (result ≡ 1) ⊎ (result ≡ 5) }
-    ensures well { result ≡ 0 → (text : List ℕ) × IsWholeSession (known 134217728
-        (Some (λ name. Some (kept_or_empty shelf.old.entries.items name)))) bytes.items text false }
-    ensures refused { result ≡ 1 → (text : List ℕ) × IsWholeSession (known 134217728
-        (Some (λ name. Some (kept_or_empty shelf.old.entries.items name)))) bytes.items text true }
+    ensures well { result ≡ 0 → (text : List ℕ)
+        × IsWholeSession (ledger_protocol (known 134217728
+        (Some (λ name. Some (kept_or_empty shelf.old.entries.items name)))))
+        bytes.items text false }
+    ensures refused { result ≡ 1 → (text : List ℕ)
+        × IsWholeSession (ledger_protocol (known 134217728
+        (Some (λ name. Some (kept_or_empty shelf.old.entries.items name)))))
+        bytes.items text true }
 {
     let mut source = SureSource::of(bytes);
     let mut sink = SureSink::of();

@@ -3,8 +3,10 @@ use Rattle.etp_print.proofs.GivenLemmas.{untrue}
 use Rattle.std.specs.Prelude.{Err}
 use Rattle.etp_io.specs.declared.lines.Next.TheVariants.{End}
 use Rattle.etp_session.specs.declared.serving.Ending.TheVariants.{ReadFault, WriteFault, NoMemory, TooMuch}
-use Rattle.etp_session.proofs.Running.{running-then, ends-well, ends-in_reply, ends-before_close, ends-between, ends-in_close, takes-within, takes-now, stops, stops-at_fault, stops-at_name, goes-on, done-close, untouched-yet, untouched-after}
-use Rattle.etp_session.proofs.EndLemmas.{session-ends, close-ends, early-ends, ends-at_once, takes-none}
+use Rattle.etp_session.proofs.Running.{running-then, ends-well, ends-in_reply, ends-before_close, ends-between, ends-in_close, takes-within, takes-now, stops, stops-at_fault, stops-at_name, untouched-yet, untouched-after}
+use Rattle.etp_session.proofs.Taking.{goes-on}
+use Rattle.etp_session.proofs.GivenTexts.{gives-line, closes-text, closes-some}
+use Rattle.etp_session.proofs.EndLemmas.{session-ends, close-ends, early-ends, ends-at_once, takes-none, done-close}
 use Rattle.etp_session.proofs.serving.serve.Goals as goal
 
 -- no line was read
@@ -51,11 +53,11 @@ returns-then-is_end g c =
     let end = c.in-Ok-next.ensures.end over in
     close-ends _ _ _ c.close.result c.close.ensures.ends
     (done-close c.close.result _ _ c.close.ensures.done (λ bad w.
-    ends-well _ _ _ _ _ _ _ _ _ _ _ _ c.next.new.self _ bad _ c.served.invariant.0 c.next.ensures.fits (λ f. rw over at (c.in-Ok-next.ensures.lines f)) end.0 end.1 w))
+    ends-well _ _ _ _ _ _ _ _ _ _ _ _ c.next.new.self _ bad _ c.served.invariant.0 c.next.ensures.fits (λ f. rw over at (c.in-Ok-next.ensures.lines f)) end.0 end.1 (λ state now. closes-text _ _ _ _ _ _ (w state now))))
     (λ e. ends-before_close _ _ _ _ _ _ _ _ _ _ _ _ c.served.invariant.0 (c.close.ensures.memory e))
     (λ e. (
       (let rose = c.close.ensures.cause e in omega (arith, rose, c.served.invariant.3)),
-      ends-in_close _ _ _ _ _ _ _ _ _ _ _ _ c.next.new.self _ _ c.served.invariant.0 c.next.ensures.fits (λ f. rw over at (c.in-Ok-next.ensures.lines f)) end.0 end.1 (c.close.ensures.write e),
+      ends-in_close _ _ _ _ _ _ _ _ _ _ _ _ c.next.new.self _ _ c.served.invariant.0 c.next.ensures.fits (λ f. rw over at (c.in-Ok-next.ensures.lines f)) end.0 end.1 (λ state now. closes-some _ _ _ _ _ (c.close.ensures.write e state now)),
     ))
     (takes-within _ _ _ _ _ _ _ _ _ _ _ c.next.new.self _ _ c.served.invariant.0
     (rw c.in-Ok-next.ensures.ok at c.next.ensures.says) c.next.ensures.limit c.next.ensures.taken c.next.ensures.loses c.next.ensures.given)
@@ -101,7 +103,7 @@ returns-in-Err-write_all g c =
     session-ends _ _ _ WriteFault (
       omega (arith, (rw c.in-Err-write_all.is at c.write_all.ensures.cause.failed), c.served.invariant.3),
       ends-in_reply _ _ _ _ _ _ _ _ _ _ _ c.next.new.self _ c.in-Ok-answer_line.also c.in-Ok-next.next c.answer_line.new.text _ _ running
-          c.in-Ok-next.ensures.lines more c.in-Ok-next.ensures.number (λ state now. rw (c.line_read-line.ensures.text, c.number.ensures.number, c.served.invariant.6) at (c.in-Ok-answer_line.ensures.ok state now))
+          c.in-Ok-next.ensures.lines more c.in-Ok-next.ensures.number (λ state now. gives-line _ _ _ _ _ _ _ (rw (c.line_read-line.ensures.text, c.number.ensures.number, c.served.invariant.6) at (c.in-Ok-answer_line.ensures.ok state now)))
           (rw c.as_slice.ensures at c.in-Err-write_all.ensures.err),
       takes-within _ _ _ _ _ _ _ _ _ _ _ c.next.new.self _ _ running
           (rw c.in-Ok-next.ensures.ok at c.next.ensures.says) c.next.ensures.limit c.next.ensures.taken c.next.ensures.loses c.next.ensures.given,
@@ -120,7 +122,7 @@ served-preserved g c =
           (running-then _ _ _ _ _ _ _ _ _ _ _ _ _ c.next.new.self _ c.in-Ok-answer_line.also c.in-Ok-next.next c.answer_line.new.text _ _ c.served.invariant.0
           c.next.ensures.fits c.in-Ok-next.ensures.lines more c.in-Ok-next.ensures.number c.in-Ok-next.ensures.ok c.next.ensures.says c.next.ensures.limit
           (omega (arith, c.number.ensures.counted)) c.next.ensures.taken c.next.ensures.loses c.next.ensures.given
-          (λ state now. rw (c.line_read-line.ensures.text, c.number.ensures.number, c.served.invariant.6) at (c.in-Ok-answer_line.ensures.ok state now))
+          (λ state now. gives-line _ _ _ _ _ _ _ (rw (c.line_read-line.ensures.text, c.number.ensures.number, c.served.invariant.6) at (c.in-Ok-answer_line.ensures.ok state now)))
           (rw c.as_slice.ensures at c.in-Ok-write_all.ensures.ok)),
       c.in-Ok-answer_line.ensures.laws,
       omega (arith, c.served.invariant.2, c.next.ensures.later),
