@@ -1,7 +1,11 @@
 pub mod Parts
 pub mod SessionLemmas
+pub mod WritingLemmas
 pub mod ListingLemmas
 pub mod OneText
+pub mod Taking
+pub mod GivenTexts
 pub mod Running
+pub mod EndLemmas
 pub mod ShelfReading
 pub mod LoadAnswers

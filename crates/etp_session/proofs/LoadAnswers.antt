@@ -1,11 +1,13 @@
 -- What loading a file comes to.
-use Rattle.std.proofs.Common.{◌≡◌, ℕ, ◌<◌, ◌≤◌, List, [], length, Bool}
+use Rattle.std.proofs.Common.{◌≡◌, ℕ, ◌<◌, ◌≤◌, List, [], ◌∷◌, ◌++◌, length, Bool, sym, subst, append_assoc, append-nil}
 use Rattle.std.proofs.lemmas.Option.{slice_get_within}
 use Rattle.etp_io.specs.Texts.{LineText}
 use Rattle.etp_print.specs.Texts.{Reply}
+use Rattle.etp_desk.specs.States as States
 use Rattle.etp_desk.specs.States.{State}
+use Rattle.etp_desk.specs.declared.opened.Opened.{Opened}
 use Rattle.etp_desk.specs.Desks.{opened_of}
-use Rattle.etp_filing.specs.Filings.{loading}
+use Rattle.etp_filing.specs.Filings.{IsFiling, loading, with_line}
 use Rattle.etp_filing.specs.declared.filing.Filing.{Filing}
 use Rattle.etp_reply.specs.Shelves.{KnownShelf, IsLoaded}
 use Rattle.etp_reply.specs.Replies.{LoadReply}
@@ -14,7 +16,23 @@ use Rattle.etp_reply.specs.Desks.{IsLoading}
 use Rattle.etp_reply.specs.Outcomes.{LoadsFile}
 use Rattle.etp_reply.specs.declared.desk.Desk.{Desk}
 use Rattle.etp_reply.proofs.StateAnswers.{GivesState-map}
-use Rattle.etp_session.specs.Loads.{LoadedLines}
+use Rattle.etp_session.specs.Loads.{with_lines, LoadedLines}
+use Rattle.etp_session.proofs.ShelfReading.{TakesName}
+
+-- a file that is read has taken these body lines
+abbrev pub AddsLines : Filing → Filing → List LineText → Type 0
+AddsLines first now lines = (o : Opened) (g : States.Filing) → IsFiling o first g → IsFiling o now (with_lines g lines)
+
+pub adds-none : (f : Filing) → AddsLines f f []
+adds-none f o g h = subst (λ (lines : List LineText). IsFiling o f (record { number = g.number; word = g.word; lines = lines })) (sym (append-nil g.lines)) h
+
+pub adds-line : (first now then : Filing) (lines : List LineText) (line : LineText) → AddsLines first now lines
+    → ((o : Opened) (f : States.Filing) → IsFiling o now f → IsFiling o then (with_line f line)) → AddsLines first then (lines ++ line ∷ [])
+adds-line first now then lines line h taken o f p =
+    subst (λ (ls : List LineText). IsFiling o then (record { number = f.number; word = f.word; lines = ls })) (append_assoc f.lines lines (line ∷ [])) (taken o (with_lines f lines) (h o f p))
+
+pub loaded-lines : (s : KnownShelf) (name : List ℕ) (first now : Filing) → TakesName s name (AddsLines first now) → LoadedLines s name first now
+loaded-lines s name first now h = record { lines = h.lines; loaded = h.loaded; pending = h.took }
 
 -- the length of a name
 pub loading-name : (d : Desk) (n : ℕ) (name : List ℕ) (lines : List LineText) (f : Filing) → IsLoading d n name lines f → (0 < length name) × (length name ≤ 64)

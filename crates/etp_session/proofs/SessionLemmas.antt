@@ -1,10 +1,7 @@
 -- Sessions that grow by a line.
 use Rattle.std.proofs.Common.{◌≡◌, ℕ, ◌+◌, List, [], ◌∷◌, ◌++◌, length, refl, sym, ◌∙◌, ap, subst, append_assoc, append-nil, add-zero, Bool, true, false, ◌||◌, arith}
 use Rattle.etp_io.specs.Texts.{LineText}
-use Rattle.etp_print.specs.Texts.{Reply, reply_text, is_refusal}
-use Rattle.etp_desk.specs.States.{State}
-use Rattle.etp_reply.specs.Shelves.{KnownShelf}
-use Rattle.etp_reply.specs.Replies.{Replies, answered_line}
+use Rattle.etp_session.specs.Protocols.{Protocol}
 use Rattle.etp_session.specs.Sessions.{Item, Session, items_from}
 
 or_assoc : (a b c : Bool) → ((a || b) || c) ≡ (a || (b || c))
@@ -21,26 +18,26 @@ items_from-append n (line ∷ lines) more =
     let e : n + 1 + length lines ≡ n + length (line ∷ lines) = omega arith in
     ap (λ l. record { number = n; line = line } ∷ l) (items_from-append (n + 1) lines more ∙ ap (λ k. items_from (n + 1) lines ++ items_from k more) e)
 
-pub Session-then : (s : KnownShelf) (first middle last : State) (items : List Item) (item : Item) (text : List ℕ) (wrong : Bool) (reply : Reply)
-    → Session s first items text wrong middle → Replies s middle item.number item.line reply last
-    → Session s first (items ++ item ∷ []) (text ++ reply_text (answered_line middle item.number) reply) (wrong || is_refusal reply) last
-Session-then s first middle last [] item text wrong reply h k = (
+pub Session-then : (p : Protocol) (first middle last : p.State) (items : List Item) (item : Item) (text : List ℕ) (wrong : Bool) (reply : p.Reply)
+    → Session p first items text wrong middle → p.Replies middle item.number item.line reply last
+    → Session p first (items ++ item ∷ []) (text ++ p.reply_text (p.answered_line middle item.number) reply) (wrong || p.is_refusal reply) last
+Session-then p first middle last [] item text wrong reply h k = (
   reply,
   last,
   [],
   false,
-  subst (λ (before : State). Replies s before item.number item.line reply last) h.2 k,
+  subst (λ (before : p.State). p.Replies before item.number item.line reply last) h.2 k,
   (refl, refl, refl),
-  rw h.0 (subst (λ (before : State). reply_text (answered_line middle item.number) reply ≡ reply_text (answered_line before item.number) reply ++ []) h.2 (sym (append-nil (reply_text (answered_line middle item.number) reply)))),
-  rw h.1 (sym (or-false (is_refusal reply))),
+  rw h.0 (subst (λ (before : p.State). p.reply_text (p.answered_line middle item.number) reply ≡ p.reply_text (p.answered_line before item.number) reply ++ []) h.2 (sym (append-nil (p.reply_text (p.answered_line middle item.number) reply)))),
+  rw h.1 (sym (or-false (p.is_refusal reply))),
 )
-Session-then s first middle last (before ∷ items) item text wrong reply h k = (
+Session-then p first middle last (before ∷ items) item text wrong reply h k = (
   h.0,
   h.1,
-  h.2 ++ reply_text (answered_line middle item.number) reply,
-  h.3 || is_refusal reply,
+  h.2 ++ p.reply_text (p.answered_line middle item.number) reply,
+  h.3 || p.is_refusal reply,
   h.4,
-  Session-then s h.1 middle last items item h.2 h.3 reply h.5 k,
-  rw h.6 (append_assoc (reply_text (answered_line first before.number) h.0) h.2 (reply_text (answered_line middle item.number) reply)),
-  rw h.7 (or_assoc (is_refusal h.0) h.3 (is_refusal reply)),
+  Session-then p h.1 middle last items item h.2 h.3 reply h.5 k,
+  rw h.6 (append_assoc (p.reply_text (p.answered_line first before.number) h.0) h.2 (p.reply_text (p.answered_line middle item.number) reply)),
+  rw h.7 (or_assoc (p.is_refusal h.0) h.3 (p.is_refusal reply)),
 )

@@ -1,5 +1,5 @@
 -- The lines of a name on the shelf, as they are read.
-use Rattle.std.proofs.Common.{◌≡◌, ℕ, ◌+◌, ◌-◌, ◌≤◌, ◌<◌, List, [], ◌∷◌, ◌++◌, length, drop, Option, None, Some, Bool, true, false, IsTrue, refl, sym, ◌∙◌, ap, subst, arith, append_assoc, append-nil}
+use Rattle.std.proofs.Common.{◌≡◌, ℕ, ◌+◌, ◌-◌, ◌≤◌, List, [], ◌∷◌, ◌++◌, length, drop, Option, None, Some, Bool, true, false, IsTrue, refl, sym, ◌∙◌, ap, subst, arith, append_assoc, append-nil}
 use Rattle.std.proofs.lemmas.List.{length-drop}
 use Rattle.std.specs.Option.{IfSome}
 use Rattle.std.specs.Borrow.{Bor}
@@ -14,17 +14,11 @@ use Rattle.etp_io.specs.declared.lines.Next.{Next}
 use Rattle.etp_io.specs.declared.lines.Next.TheVariants.{End}
 use Rattle.etp_io.proofs.Laws.{Loses-none, lines_of-append}
 use Rattle.etp_reading.specs.Reading.{given_text}
-use Rattle.etp_desk.specs.States as States
-use Rattle.etp_reply.specs.Shelves.{KnownShelf, HasLines, IsLong, IsTooLong}
+use Rattle.etp_reply.specs.Shelves.{KnownShelf, HasLines, IsLoaded}
 use Rattle.etp_session.specs.Ends.{Takes}
 use Rattle.etp_session.specs.Endings.{line_text}
-use Rattle.etp_filing.specs.Filings.{IsFiling}
-use Rattle.etp_filing.specs.Filings.{with_line}
-use Rattle.etp_session.specs.Loads.{with_lines, LoadedLines}
-use Rattle.etp_desk.specs.declared.opened.Opened.{Opened}
-use Rattle.etp_filing.specs.declared.filing.Filing.{Filing}
 use Rattle.etp_session.proofs.Parts.{to_last_newline-both}
-use Rattle.etp_session.proofs.Running.{takes-more, rises-by_none, no_part, at-end, says-line}
+use Rattle.etp_session.proofs.Taking.{takes-more, rises-by_none, no_part, at-end, says-line}
 
 -- a part of the bytes has these body lines, and others are to come
 pub record PartLines (ended : Bool) (bytes coming : List ℕ) (lines : List LineText) : Type 0 where
@@ -39,10 +33,11 @@ KnownLines ended None coming lines = Unit {0}
 KnownLines ended (Some bytes) None lines = ⊥
 KnownLines ended (Some bytes) (Some coming) lines = PartLines ended bytes coming lines
 
--- a name is read
-pub record Loading (limit : ℕ) (keeps : Option (List ℕ → Option (List ℕ))) (name : List ℕ) (first now : Filing) (given_before given : ℕ) (reader : Reader) : Type 0 where
+-- A name is read, and its lines so far were taken: `HasTaken` says of lines that they were, by
+-- whatever takes them.
+pub record Loading (limit : ℕ) (keeps : Option (List ℕ → Option (List ℕ))) (name : List ℕ) (HasTaken : List LineText → Type 0) (given_before given : ℕ) (reader : Reader) : Type 0 where
   pub lines : List LineText
-  pub pending : (o : Opened) (g : States.Filing) → IsFiling o first g → IsFiling o now (with_lines g lines)
+  pub took : HasTaken lines
   pub sofar : KnownLines reader.ended (left_at keeps name 0) (to_come reader (left_at keeps name reader.taken)) lines
   pub fits : FitsAt reader keeps name
   pub open_still : reader.fault ≡ None
@@ -51,12 +46,18 @@ pub record Loading (limit : ℕ) (keeps : Option (List ℕ → Option (List ℕ)
   pub within : reader.taken ≤ limit
   pub takes : Takes (left_at keeps name 0) (left_at keeps name reader.taken) given_before given reader.taken
 
-pub starts-loading : (limit : ℕ) (keeps : Option (List ℕ → Option (List ℕ))) (name : List ℕ) (f : Filing) (given : ℕ) (reader : Reader)
-    → reader ≡ record { limit = limit; taken = 0; number = 0; held = []; line = []; ended = false; fault = None }
-    → Loading limit keeps name f f given given reader
-starts-loading limit keeps name f given reader e = rw e (record {
+-- all lines of the name were taken
+pub record TakesName (s : KnownShelf) (name : List ℕ) (HasTaken : List LineText → Type 0) : Type 0 where
+  pub lines : List LineText
+  pub loaded : IsLoaded s name lines
+  pub took : HasTaken lines
+
+pub starts-loading : (limit : ℕ) (keeps : Option (List ℕ → Option (List ℕ))) (name : List ℕ) (HasTaken : List LineText → Type 0) (given : ℕ) (reader : Reader)
+    → HasTaken [] → reader ≡ record { limit = limit; taken = 0; number = 0; held = []; line = []; ended = false; fault = None }
+    → Loading limit keeps name HasTaken given given reader
+starts-loading limit keeps name HasTaken given reader none e = rw e (record {
   lines = [];
-  pending = λ o g h. subst (λ (lines : List LineText). IsFiling o f (record { number = g.number; word = g.word; lines = lines })) (sym (append-nil g.lines)) h;
+  took = none;
   sofar = known (left_at keeps name 0);
   fits = record { at_end = λ h. absurd (false_is_true h); lacking = λ h. (refl, refl) };
   open_still = refl;
@@ -98,8 +99,8 @@ known-then ended ended' (Some bytes) None coming' lines line h g = absurd h
 known-then ended ended' (Some bytes) (Some c) None lines line h g = absurd g
 known-then ended ended' (Some bytes) (Some c) (Some d) lines line h g = part-then ended ended' bytes c d lines line h g
 
-pub loading-then : (limit : ℕ) (keeps : Option (List ℕ → Option (List ℕ))) (name : List ℕ) (first now then : Filing) (g0 g g' : ℕ) (r r' : Reader) (next : Next) (line : Option (Bor (List ℕ)))
-    → Loading limit keeps name first now g0 g r
+pub loading-then : (limit : ℕ) (keeps : Option (List ℕ → Option (List ℕ))) (name : List ℕ) (HasTaken HasNow : List LineText → Type 0) (g0 g g' : ℕ) (r r' : Reader) (next : Next) (line : Option (Bor (List ℕ)))
+    → Loading limit keeps name HasTaken g0 g r
     → (FitsAt r keeps name → FitsAt r' keeps name)
     → (FitsAt r keeps name → GivesLines r'.ended (to_come r (left_at keeps name r.taken)) (to_come r' (left_at keeps name r'.taken)) (says next r'.line))
     → (next ≡ End → ⊥)
@@ -107,15 +108,14 @@ pub loading-then : (limit : ℕ) (keeps : Option (List ℕ → Option (List ℕ)
     → r'.fault ≡ None → SaysTooMuch r'.limit r'.taken r'.fault → r'.limit ≡ r.limit → r'.number ≤ r'.taken → r.taken ≤ r'.taken
     → Loses (left_at keeps name r.taken) (left_at keeps name r'.taken) (r'.taken - r.taken) → RisesBy g g' (r'.taken - r.taken)
     → given_text line ≡ line_text next r'.line
-    → ((o : Opened) (f : States.Filing) → IsFiling o now f → IsFiling o then (with_line f (given_text line)))
-    → Loading limit keeps name first then g0 g' r'
-loading-then limit keeps name first now then g0 g g' r r' next line h fits lines more number fault says_fault same_limit counted later loses given text taken =
+    → ((lines : List LineText) → HasTaken lines → HasNow (lines ++ given_text line ∷ []))
+    → Loading limit keeps name HasNow g0 g' r'
+loading-then limit keeps name HasTaken HasNow g0 g g' r r' next line h fits lines more number fault says_fault same_limit counted later loses given text taken =
     let one : says next r'.line ≡ line_text next r'.line ∷ [] = says-line next r'.line more in
     let within : r'.taken ≤ r'.limit = rw fault at says_fault in
     record {
       lines = h.lines ++ line_text next r'.line ∷ [];
-      pending = λ o f p. subst (λ (ls : List LineText). IsFiling o then (record { number = f.number; word = f.word; lines = ls }))
-          (append_assoc f.lines h.lines (given_text line ∷ []) ∙ ap (λ (l : LineText). f.lines ++ (h.lines ++ l ∷ [])) text) (taken o (with_lines f h.lines) (h.pending o f p));
+      took = subst (λ (l : LineText). HasNow (h.lines ++ l ∷ [])) text (taken h.lines h.took);
       sofar = known-then r.ended r'.ended (left_at keeps name 0) (to_come r (left_at keeps name r.taken)) (to_come r' (left_at keeps name r'.taken)) h.lines (line_text next r'.line) h.sofar (rw one at (lines h.fits));
       fits = fits h.fits;
       open_still = fault;
@@ -160,8 +160,8 @@ there-lines limit (Some kept) name lines n h = by (kept name) refl
     by None e = absurd (n e)
     by (Some bytes) e = rw e (rw e at h)
 
-pub loading-all : (s : KnownShelf) (name : List ℕ) (first now : Filing) (g0 g : ℕ) (r r' : Reader)
-    → Loading s.limit s.keeps name first now g0 g r
+pub loading-all : (s : KnownShelf) (name : List ℕ) (HasTaken : List LineText → Type 0) (g0 g : ℕ) (r r' : Reader)
+    → Loading s.limit s.keeps name HasTaken g0 g r
     → (FitsAt r s.keeps name → FitsAt r' s.keeps name)
     → (FitsAt r s.keeps name → GivesLines r'.ended (to_come r (left_at s.keeps name r.taken)) (to_come r' (left_at s.keeps name r'.taken)) [])
     → r'.held ≡ [] → r'.ended ≡ true
@@ -169,8 +169,8 @@ pub loading-all : (s : KnownShelf) (name : List ℕ) (first now : Filing) (g0 g 
     → Loses (left_at s.keeps name r.taken) (left_at s.keeps name r'.taken) (r'.taken - r.taken)
     → (g' : ℕ) → RisesBy g g' (r'.taken - r.taken)
     → (FitsAt r s.keeps name → Lacks s.keeps name → ⊥)
-    → LoadedLines s name first now
-loading-all s name first now g0 g r r' h fits lines none ended fault says_fault same_limit later loses g' given there =
+    → TakesName s name HasTaken
+loading-all s name HasTaken g0 g r r' h fits lines none ended fault says_fault same_limit later loses g' given there =
     let within : r'.taken ≤ r'.limit = rw fault at says_fault in
     let over : IsTrue r'.ended = ended in
     let left_none : IsAtEnd (left_at s.keeps name r'.taken) = (fits h.fits).at_end over in
@@ -180,32 +180,5 @@ loading-all s name first now g0 g r r' h fits lines none ended fault says_fault 
       loaded = there-lines s.limit s.keeps name h.lines (there h.fits)
           (known-all s.limit r'.taken r.ended r'.ended (left_at s.keeps name 0) (to_come r (left_at s.keeps name r.taken)) (to_come r' (left_at s.keeps name r'.taken)) (left_at s.keeps name r'.taken) h.lines h.sofar (lines h.fits)
           (rw none (at-end (left_at s.keeps name r'.taken) left_none)) takes.loses left_none (omega (arith, within, same_limit, h.limited)));
-      pending = h.pending;
+      took = h.took;
     }
-
--- it has too many bytes
-many-bytes : (limit : ℕ) (told left : Option (List ℕ)) → Loses told left (limit + 1) → IfSome told (λ bytes. limit < length bytes)
-many-bytes limit None left l = tt
-many-bytes limit (Some bytes) None l = absurd l
-many-bytes limit (Some bytes) (Some left) l = omega (arith, l.1)
-
-there-long : (limit : ℕ) (keeps : Option (List ℕ → Option (List ℕ))) (name : List ℕ) → (Lacks keeps name → ⊥) → IfSome (left_at keeps name 0) (λ bytes. limit < length bytes)
-    → IfSome keeps (λ kept. IsLong limit (kept name))
-there-long limit None name n h = tt
-there-long limit (Some kept) name n h = by (kept name) refl
-  where
-    by : (o : Option (List ℕ)) → kept name ≡ o → IsLong limit (kept name)
-    by None e = absurd (n e)
-    by (Some bytes) e = rw e (rw e at h)
-
-pub loading-long : (s : KnownShelf) (name : List ℕ) (first now : Filing) (g0 g g' : ℕ) (r r' : Reader)
-    → Loading s.limit s.keeps name first now g0 g r
-    → r'.taken ≡ r'.limit + 1 → r'.limit ≡ r.limit → r.taken ≤ r'.taken
-    → Loses (left_at s.keeps name r.taken) (left_at s.keeps name r'.taken) (r'.taken - r.taken) → RisesBy g g' (r'.taken - r.taken)
-    → (FitsAt r s.keeps name → Lacks s.keeps name → ⊥)
-    → IsTooLong s name × Takes (left_at s.keeps name 0) (left_at s.keeps name r'.taken) g0 g' (s.limit + 1)
-loading-long s name first now g0 g g' r r' h amount same_limit later loses given there =
-    let count : r'.taken ≡ s.limit + 1 = omega (arith, amount, same_limit, h.limited) in
-    let takes : Takes (left_at s.keeps name 0) (left_at s.keeps name r'.taken) g0 g' r'.taken = takes-more (left_at s.keeps name 0) (left_at s.keeps name r.taken) (left_at s.keeps name r'.taken) g0 g g' r.taken r'.taken h.takes loses given later in
-    let all : Takes (left_at s.keeps name 0) (left_at s.keeps name r'.taken) g0 g' (s.limit + 1) = record { loses = subst (λ n. Loses (left_at s.keeps name 0) (left_at s.keeps name r'.taken) n) count takes.loses; counted = subst (λ n. RisesBy g0 g' n) count takes.counted } in
-    (there-long s.limit s.keeps name (there h.fits) (many-bytes s.limit (left_at s.keeps name 0) (left_at s.keeps name r'.taken) all.loses), all)

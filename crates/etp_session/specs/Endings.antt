@@ -59,11 +59,3 @@ IsEnd WriteFault = Unit {0}
 IsEnd NoMemory = Unit {0}
 IsEnd ReadFault = ⊥
 IsEnd TooMuch = ⊥
-
--- a fact of an end in the middle of a reply or before it
-abbrev pub IsCut : Ending → Type 0 → Type 0
-IsCut (Done bad) P = Unit {0}
-IsCut ReadFault P = Unit {0}
-IsCut WriteFault P = P
-IsCut NoMemory P = P
-IsCut TooMuch P = Unit {0}

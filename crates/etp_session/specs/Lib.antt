@@ -1,5 +1,9 @@
+pub mod Streams
+pub mod Protocols
 pub mod Sessions
 pub mod Ends
+pub mod SessionEnds
 pub mod Loads
 pub mod Endings
+pub mod Writing
 pub mod Listings

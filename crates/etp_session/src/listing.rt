@@ -2,7 +2,8 @@ ghost use Rattle.std.specs.Prelude.{◌≡◌, OnOk, OnErr};
 ghost use Rattle.etp_io.specs.Causes.{Rose, HasCause};
 ghost use Rattle.etp_io.specs.Stream.{AppendsPrefix};
 ghost use Rattle.etp_command.specs.Values.{operations_of};
-ghost use Rattle.etp_session.specs.Listings.{ListsLaws, MovesFront};
+ghost use Rattle.etp_session.specs.Listings.{laws_text, WritesLaws, MovesFront};
+ghost use Rattle.etp_session.specs.Writing.{WritesText};
 
 use etp_command::ListOrder;
 use etp_io::{Failed, Sink, write_all};
@@ -32,7 +33,7 @@ fn write_piece<K: Sink>(text: &mut Text, sink: &mut K) -> Result<(), Failed>
 /// the status: 0 where all was written, 4 where a write failed, 5 for want of memory. Beside the
 /// list it keeps no more than a piece of the text.
 pub fn list_laws<K: Sink>(alloc: Global, order: ListOrder, sink: &mut K) -> u8
-    ensures laws { ListsLaws (operations_of order) (K.took sink.old) (K.took sink.new) result }
+    ensures laws { WritesLaws (operations_of order) (K.took sink.old) (K.took sink.new) result }
     ensures write { result ≡ 4 → Rose (K.faults sink.old) (K.faults sink.new) }
 {
     match Laws::build_to(alloc, order.operations()) {
@@ -43,7 +44,8 @@ pub fn list_laws<K: Sink>(alloc: Global, order: ListOrder, sink: &mut K) -> u8
 
 // Writes the laws one after another, in pieces.
 fn write_laws<K: Sink>(alloc: Global, laws: &Laws, sink: &mut K) -> u8
-    ensures laws { ListsLaws laws.now.order (K.took sink.old) (K.took sink.new) result }
+    ensures laws { WritesText (laws_text laws.now.equations)
+        (K.took sink.old) (K.took sink.new) result }
     ensures write { result ≡ 4 → Rose (K.faults sink.old) (K.faults sink.new) }
 {
     let mut text = Text::empty(alloc);

@@ -35,13 +35,18 @@ fn read_body<H: Shelf>(
 ) -> Result<Filing, Ending>
     requires limit { limit ≤ 134217728 }
     requires name { (0 < length name.now) × (length name.now ≤ 64) }
-    ensures ok { IfOk result (λ read. LoadedLines (known limit (H.keeps shelf.old)) name.now filing read) }
-    ensures read { IsErrOf result Ending.ReadFault → Rose (H.faults shelf.old) (H.faults shelf.new) × (H.failed_name shelf.new ≡ name.now) }
-    ensures too_much { IsErrOf result Ending.TooMuch → IsTooLong (known limit (H.keeps shelf.old)) name.now
+    ensures ok { IfOk result (λ read.
+        LoadedLines (known limit (H.keeps shelf.old)) name.now filing read) }
+    ensures read { IsErrOf result Ending.ReadFault
+        → Rose (H.faults shelf.old) (H.faults shelf.new) × (H.failed_name shelf.new ≡ name.now) }
+    ensures too_much { IsErrOf result Ending.TooMuch
+        → IsTooLong (known limit (H.keeps shelf.old)) name.now
         × (min (H.given shelf.old + (limit + 1)) (2 ^ 64 - 1) ≤ H.given shelf.new) }
-    ensures errors { IfErr result (λ e. (e ≡ Ending.NoMemory) ⊎ ((e ≡ Ending.ReadFault) ⊎ (e ≡ Ending.TooMuch))) }
+    ensures errors { IfErr result (λ e.
+        (e ≡ Ending.NoMemory) ⊎ ((e ≡ Ending.ReadFault) ⊎ (e ≡ Ending.TooMuch))) }
     ensures keeps { H.keeps shelf.new ≡ H.keeps shelf.old }
-    ensures later { (H.faults shelf.old ≤ H.faults shelf.new) × (H.given shelf.old ≤ H.given shelf.new) }
+    ensures later { (H.faults shelf.old ≤ H.faults shelf.new)
+        × (H.given shelf.old ≤ H.given shelf.new) }
 {
     let Ok(mut lines) = Lines::start(alloc, limit) else {
         return Err(Ending::NoMemory);
@@ -78,14 +83,19 @@ pub(crate) fn load<H: Shelf>(
     requires loads { (n : ℕ) × IsLoading desk.old n name.now [] filing }
     ensures ok { IfOk result (λ refused. (n : ℕ) (at : IsLoading desk.old n name.now [] filing)
         → GivesState n text.new refused
-        (LoadReply (known limit (H.keeps shelf.old)) (opened_of at.opened) n name.now) (IsDesk desk.new)) }
+        (LoadReply (known limit (H.keeps shelf.old)) (opened_of at.opened) n name.now)
+        (IsDesk desk.new)) }
     ensures laws { OnOk result (HasRightLaws desk.new) }
-    ensures read { IsErrOf result Ending.ReadFault → Rose (H.faults shelf.old) (H.faults shelf.new) × (H.failed_name shelf.new ≡ name.now) }
-    ensures too_much { IsErrOf result Ending.TooMuch → IsTooLong (known limit (H.keeps shelf.old)) name.now
+    ensures read { IsErrOf result Ending.ReadFault
+        → Rose (H.faults shelf.old) (H.faults shelf.new) × (H.failed_name shelf.new ≡ name.now) }
+    ensures too_much { IsErrOf result Ending.TooMuch
+        → IsTooLong (known limit (H.keeps shelf.old)) name.now
         × (min (H.given shelf.old + (limit + 1)) (2 ^ 64 - 1) ≤ H.given shelf.new) }
-    ensures errors { IfErr result (λ e. (e ≡ Ending.NoMemory) ⊎ ((e ≡ Ending.ReadFault) ⊎ (e ≡ Ending.TooMuch))) }
+    ensures errors { IfErr result (λ e.
+        (e ≡ Ending.NoMemory) ⊎ ((e ≡ Ending.ReadFault) ⊎ (e ≡ Ending.TooMuch))) }
     ensures keeps { H.keeps shelf.new ≡ H.keeps shelf.old }
-    ensures later { (H.faults shelf.old ≤ H.faults shelf.new) × (H.given shelf.old ≤ H.given shelf.new) }
+    ensures later { (H.faults shelf.old ≤ H.faults shelf.new)
+        × (H.given shelf.old ≤ H.given shelf.new) }
 {
     let filing = match read_body(alloc, limit, filing, name, shelf) {
         Ok(filing) => filing,

@@ -8,9 +8,10 @@ ghost use Rattle.etp_reply.specs.Replies.{Reaches};
 ghost use Rattle.etp_reply.specs.Given.{GivesReply};
 ghost use Rattle.etp_reply.specs.Desks.{IsDesk, IsSound, HasRightLaws};
 ghost use Rattle.etp_session.specs.Loads.{LoadsLong};
-ghost use Rattle.etp_session.specs.Endings.{line_text, WritesNothing, WritesClose, WritesSomeOfClose, IsDone, IsCut, IsEnd, status_of};
-ghost use Rattle.etp_session.specs.Sessions.{ReachesShelf};
-ghost use Rattle.etp_session.specs.Ends.{EndsWell, WritesPrefix, WritesWholeLines, Takes, TakesWithin, StopsAtFault, StopsAtName, StopsAtLong};
+ghost use Rattle.etp_session.specs.Endings.{line_text, WritesNothing, WritesClose, WritesSomeOfClose, IsDone, IsEnd, status_of};
+ghost use Rattle.etp_session.specs.Streams.{streams};
+ghost use Rattle.etp_session.specs.Protocols.{ledger_protocol};
+ghost use Rattle.etp_session.specs.SessionEnds.{SessionEnds};
 
 use crate::loading::load;
 use etp_io::{InFault, Lines, Next, Shelf, Sink, Source, write_all};
@@ -75,9 +76,11 @@ fn close<K: Sink>(
     sink: &mut K,
 ) -> Ending
     requires { IsSound desk.old }
-    ensures done { IsDone result (λ bad. (state : State) → IsDesk desk.old state → WritesClose state refused (K.took sink.old) (K.took sink.new) bad) }
+    ensures done { IsDone result (λ bad. (state : State) → IsDesk desk.old state
+        → WritesClose state refused (K.took sink.old) (K.took sink.new) bad) }
     ensures memory { result ≡ Ending.NoMemory → WritesNothing (K.took sink.old) (K.took sink.new) }
-    ensures write { result ≡ Ending.WriteFault → (state : State) → IsDesk desk.old state → WritesSomeOfClose state refused (K.took sink.old) (K.took sink.new) }
+    ensures write { result ≡ Ending.WriteFault → (state : State) → IsDesk desk.old state
+        → WritesSomeOfClose state refused (K.took sink.old) (K.took sink.new) }
     ensures cause { result ≡ Ending.WriteFault → Rose (K.faults sink.old) (K.faults sink.new) }
     ensures ends { IsEnd result }
 {
@@ -113,17 +116,22 @@ fn answer_line<H: Shelf>(
     requires sound { IsSound desk.old }
     requires short { IfSome line (λ line. length line.now ≤ 4096) }
     ensures ok { IfOk result (λ refused. (state : State) → IsDesk desk.old state
-        → GivesReply (known limit (H.keeps shelf.old)) state number (given_text line.entry) text.new refused (IsDesk desk.new)) }
+        → GivesReply (known limit (H.keeps shelf.old)) state number (given_text line.entry)
+        text.new refused (IsDesk desk.new)) }
     ensures laws { OnOk result (HasRightLaws desk.new) }
     ensures read { IsErrOf result Ending.ReadFault → Rose (H.faults shelf.old) (H.faults shelf.new)
-        × ((state : State) → IsDesk desk.old state → Reaches state (given_text line.entry) (H.failed_name shelf.new)) }
+        × ((state : State) → IsDesk desk.old state
+        → Reaches state (given_text line.entry) (H.failed_name shelf.new)) }
     ensures too_much { IsErrOf result Ending.TooMuch → (state : State) → IsDesk desk.old state
-        → LoadsLong (known limit (H.keeps shelf.old)) state (given_text line.entry) (H.given shelf.old) (H.given shelf.new) }
-    ensures errors { IfErr result (λ e. (e ≡ Ending.NoMemory) ⊎ ((e ≡ Ending.ReadFault) ⊎ (e ≡ Ending.TooMuch))) }
+        → LoadsLong (known limit (H.keeps shelf.old)) state (given_text line.entry)
+        (H.given shelf.old) (H.given shelf.new) }
+    ensures errors { IfErr result (λ e.
+        (e ≡ Ending.NoMemory) ⊎ ((e ≡ Ending.ReadFault) ⊎ (e ≡ Ending.TooMuch))) }
     ensures keeps { H.keeps shelf.new ≡ H.keeps shelf.old }
     ensures untouched { (state : State) → IsDesk desk.old state
         → (shelf.new ≡ shelf.old) ⊎ ((name : List ℕ) × Reaches state (given_text line.entry) name) }
-    ensures later { (H.faults shelf.old ≤ H.faults shelf.new) × (H.given shelf.old ≤ H.given shelf.new) }
+    ensures later { (H.faults shelf.old ≤ H.faults shelf.new)
+        × (H.given shelf.old ≤ H.given shelf.new) }
 {
     match respond(alloc, text, desk, line, number) {
         Ok(Outcome::Replied(refused)) => Ok(refused),
@@ -141,23 +149,9 @@ fn serve<S: Source, K: Sink, H: Shelf>(
     shelf: &mut H,
 ) -> Ending
     requires { limit ≤ 134217728 }
-
-    ensures done { IsDone result (λ refused. EndsWell (known limit (H.keeps shelf.old)) (S.left source.old) (S.left source.new) (K.took sink.old) (K.took sink.new) (S.last source.new) refused) }
-    ensures cut { IsCut result (WritesPrefix (known limit (H.keeps shelf.old)) (S.left source.old) (K.took sink.old) (K.took sink.new)) }
-
-    ensures read { result ≡ Ending.ReadFault
-        → (Rose (S.faults source.old) (S.faults source.new)
-        × StopsAtFault (known limit (H.keeps shelf.old)) (S.left source.old) (S.left source.new) (K.took sink.old) (K.took sink.new) (S.given source.old) (S.given source.new))
-        ⊎ (Rose (H.faults shelf.old) (H.faults shelf.new)
-        × StopsAtName (known limit (H.keeps shelf.old)) (S.left source.old) (S.left source.new) (K.took sink.old) (K.took sink.new) (S.given source.old) (S.given source.new) (H.failed_name shelf.new)) }
-    ensures write { result ≡ Ending.WriteFault → Rose (K.faults sink.old) (K.faults sink.new) }
-    ensures too_much { result ≡ Ending.TooMuch
-        → (Takes (S.left source.old) (S.left source.new) (S.given source.old) (S.given source.new) (limit + 1)
-        × WritesWholeLines (known limit (H.keeps shelf.old)) (S.left source.old) (K.took sink.old) (K.took sink.new) (limit + 1 - S.last source.new))
-        ⊎ StopsAtLong (known limit (H.keeps shelf.old)) (S.left source.old) (S.left source.new) (K.took sink.old) (K.took sink.new) (S.given source.old) (S.given source.new) (H.given shelf.old) (H.given shelf.new) }
-    ensures within { (result ≡ Ending.TooMuch → ⊥) → TakesWithin (S.left source.old) (S.left source.new) (S.given source.old) (S.given source.new) limit }
-    ensures keeps { H.keeps shelf.new ≡ H.keeps shelf.old }
-    ensures untouched { IfSome (S.left source.old) (λ bytes. (shelf.new ≡ shelf.old) ⊎ ReachesShelf (known limit (H.keeps shelf.old)) bytes) }
+    ensures { SessionEnds (ledger_protocol (known limit (H.keeps shelf.old)))
+        (streams S.Source K.Sink H.Shelf source.old sink.old shelf.old)
+        (streams S.Source K.Sink H.Shelf source.new sink.new shelf.new) (status_of result) }
 {
     let Ok(mut lines) = Lines::start(alloc, limit) else {
         return Ending::NoMemory;
@@ -210,37 +204,9 @@ pub fn session<S: Source, K: Sink, H: Shelf>(
     shelf: &mut H,
 ) -> u8
     requires { limit ≤ 134217728 }
-
-    // At 0 and 1 the source and each name that was loaded were read to their ends and the whole text was written.
-    ensures well { result ≡ 0 → EndsWell (known limit (H.keeps shelf.old)) (S.left source.old) (S.left source.new) (K.took sink.old) (K.took sink.new) (S.last source.new) false }
-    ensures refused { result ≡ 1 → EndsWell (known limit (H.keeps shelf.old)) (S.left source.old) (S.left source.new) (K.took sink.old) (K.took sink.new) (S.last source.new) true }
-
-    // At 3 a read failed: one of the source, and the lines that stand whole in the bytes taken were answered;
-    // or one of the shelf in a `load` of the name that failed last, and the lines before it were.
-    ensures read { result ≡ 3
-        → (Rose (S.faults source.old) (S.faults source.new)
-        × StopsAtFault (known limit (H.keeps shelf.old)) (S.left source.old) (S.left source.new) (K.took sink.old) (K.took sink.new) (S.given source.old) (S.given source.new))
-        ⊎ (Rose (H.faults shelf.old) (H.faults shelf.new)
-        × StopsAtName (known limit (H.keeps shelf.old)) (S.left source.old) (S.left source.new) (K.took sink.old) (K.took sink.new) (S.given source.old) (S.given source.new) (H.failed_name shelf.new)) }
-
-    // At 4 a write failed; at 4 and 5 a prefix of the text was written.
-    ensures write { result ≡ 4 → Rose (K.faults sink.old) (K.faults sink.new) }
-    ensures write_end { result ≡ 4 → WritesPrefix (known limit (H.keeps shelf.old)) (S.left source.old) (K.took sink.old) (K.took sink.new) }
-    ensures memory_end { result ≡ 5 → WritesPrefix (known limit (H.keeps shelf.old)) (S.left source.old) (K.took sink.old) (K.took sink.new) }
-
-    // At 6 one byte more than the limit was taken: of the source, and the lines that stand whole in the bytes before the last
-    // read were answered; or of a name in a `load`, and the lines before it were.
-    ensures too_much { result ≡ 6
-        → (Takes (S.left source.old) (S.left source.new) (S.given source.old) (S.given source.new) (limit + 1)
-        × WritesWholeLines (known limit (H.keeps shelf.old)) (S.left source.old) (K.took sink.old) (K.took sink.new) (limit + 1 - S.last source.new))
-        ⊎ StopsAtLong (known limit (H.keeps shelf.old)) (S.left source.old) (S.left source.new) (K.took sink.old) (K.took sink.new) (S.given source.old) (S.given source.new) (H.given shelf.old) (H.given shelf.new) }
-    ensures within { (result ≡ 6 → ⊥) → TakesWithin (S.left source.old) (S.left source.new) (S.given source.old) (S.given source.new) limit }
-
-    // The shelf keeps what it did, and is as it was where no `load` reaches it.
-    ensures keeps { H.keeps shelf.new ≡ H.keeps shelf.old }
-    ensures untouched { IfSome (S.left source.old) (λ bytes. (shelf.new ≡ shelf.old) ⊎ ReachesShelf (known limit (H.keeps shelf.old)) bytes) }
-
-    ensures statuses { (result ≤ 6) × (result ≡ 2 → ⊥) }
+    ensures { SessionEnds (ledger_protocol (known limit (H.keeps shelf.old)))
+        (streams S.Source K.Sink H.Shelf source.old sink.old shelf.old)
+        (streams S.Source K.Sink H.Shelf source.new sink.new shelf.new) result }
 {
     status(serve(alloc, limit, source, sink, shelf))
 }

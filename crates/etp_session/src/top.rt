@@ -3,11 +3,13 @@ ghost use Rattle.std.specs.String.{string_bytes};
 ghost use Rattle.etp_io.specs.Causes.{Rose};
 ghost use Rattle.etp_command.specs.Arguments.{task_of, IsTask};
 ghost use Rattle.etp_command.specs.Values.{operations_of};
-ghost use Rattle.etp_session.specs.Listings.{ListsLaws};
-ghost use Rattle.etp_session.specs.Sessions.{IsSession, IsWholeSession, ReachesShelf};
+ghost use Rattle.etp_session.specs.Listings.{WritesLaws};
+ghost use Rattle.etp_session.specs.Streams.{streams};
+ghost use Rattle.etp_session.specs.Protocols.{ledger_protocol};
+ghost use Rattle.etp_session.specs.Sessions.{IsSession, IsWholeSession};
+ghost use Rattle.etp_session.specs.SessionEnds.{SessionEnds};
 ghost use Rattle.etp_io.specs.Kept.{kept_or_empty};
 ghost use Rattle.std.specs.declared.option.Option.{Option};
-ghost use Rattle.etp_session.specs.Ends.{EndsWell, WritesPrefix, WritesWholeLines, Takes, TakesWithin, StopsAtFault, StopsAtName, StopsAtLong};
 ghost use Rattle.etp_reply.specs.Shelves.{known};
 
 use crate::listing::list_laws;
@@ -32,42 +34,27 @@ pub fn run<S: Source, K: Sink, H: Shelf>(
     shelf: &mut H,
 ) -> u8
     ensures words { result ≡ 2 ↔ (task_of (map string_bytes words.now) ≡ Task.Unknown) }
-    ensures untouched { result ≡ 2 → (source.new ≡ source.old) × (sink.new ≡ sink.old) × (shelf.new ≡ shelf.old) }
+    ensures untouched { result ≡ 2
+        → (source.new ≡ source.old) × (sink.new ≡ sink.old) × (shelf.new ≡ shelf.old) }
 
-    // A session, at 0 and 1: the source and each name that was loaded were read to their ends and the whole text was written.
-    ensures well { IsTask (map string_bytes words.now) Task.Session → result ≡ 0 → EndsWell (known 134217728 (H.keeps shelf.old)) (S.left source.old) (S.left source.new) (K.took sink.old) (K.took sink.new) (S.last source.new) false }
-    ensures refused { result ≡ 1 → EndsWell (known 134217728 (H.keeps shelf.old)) (S.left source.old) (S.left source.new) (K.took sink.old) (K.took sink.new) (S.last source.new) true }
-
-    // At 3 a read failed: one of the source, and the lines that stand whole in the bytes taken were answered;
-    // or one of the shelf in a `load` of the name that failed last, and the lines before it were.
-    ensures read { result ≡ 3
-        → (Rose (S.faults source.old) (S.faults source.new)
-        × StopsAtFault (known 134217728 (H.keeps shelf.old)) (S.left source.old) (S.left source.new) (K.took sink.old) (K.took sink.new) (S.given source.old) (S.given source.new))
-        ⊎ (Rose (H.faults shelf.old) (H.faults shelf.new)
-        × StopsAtName (known 134217728 (H.keeps shelf.old)) (S.left source.old) (S.left source.new) (K.took sink.old) (K.took sink.new) (S.given source.old) (S.given source.new) (H.failed_name shelf.new)) }
-
-    // At 4 a write failed; in a session a prefix of the text was written at 4 and 5.
-    ensures write { result ≡ 4 → Rose (K.faults sink.old) (K.faults sink.new) }
-    ensures write_end { IsTask (map string_bytes words.now) Task.Session → result ≡ 4 → WritesPrefix (known 134217728 (H.keeps shelf.old)) (S.left source.old) (K.took sink.old) (K.took sink.new) }
-    ensures memory_end { IsTask (map string_bytes words.now) Task.Session → result ≡ 5 → WritesPrefix (known 134217728 (H.keeps shelf.old)) (S.left source.old) (K.took sink.old) (K.took sink.new) }
-
-    // At 6 one byte more than the limit was taken: of the source, and the lines that stand whole in the bytes before the last
-    // read were answered; or of a name in a `load`, and the lines before it were.
-    ensures too_much { result ≡ 6
-        → (Takes (S.left source.old) (S.left source.new) (S.given source.old) (S.given source.new) 134217729
-        × WritesWholeLines (known 134217728 (H.keeps shelf.old)) (S.left source.old) (K.took sink.old) (K.took sink.new) (134217729 - S.last source.new))
-        ⊎ StopsAtLong (known 134217728 (H.keeps shelf.old)) (S.left source.old) (S.left source.new) (K.took sink.old) (K.took sink.new) (S.given source.old) (S.given source.new) (H.given shelf.old) (H.given shelf.new) }
-    ensures within { IsTask (map string_bytes words.now) Task.Session → (result ≡ 6 → ⊥) → TakesWithin (S.left source.old) (S.left source.new) (S.given source.old) (S.given source.new) 134217728 }
+    // A session: `SessionEnds` says what each status means, and at 0 and 1 (`well`, `refused`) that the
+    // whole text was written.
+    ensures session { IsTask (map string_bytes words.now) Task.Session
+        → SessionEnds (ledger_protocol (known 134217728 (H.keeps shelf.old)))
+        (streams S.Source K.Sink H.Shelf source.old sink.old shelf.old)
+        (streams S.Source K.Sink H.Shelf source.new sink.new shelf.new) result }
+    ensures sessions { (result ≡ 1) ⊎ ((result ≡ 3) ⊎ (result ≡ 6))
+        → IsTask (map string_bytes words.now) Task.Session }
 
     // The list of laws: at 0 all was written, at 4 and 5 a prefix, and nothing was read.
-    ensures laws { (order : ListOrder) → IsTask (map string_bytes words.now) (Task.Laws order) → ListsLaws (operations_of order) (K.took sink.old) (K.took sink.new) result }
-    ensures unread { (order : ListOrder) → IsTask (map string_bytes words.now) (Task.Laws order) → (source.new ≡ source.old) × (shelf.new ≡ shelf.old) }
+    ensures laws { (order : ListOrder) → IsTask (map string_bytes words.now) (Task.Laws order)
+        → WritesLaws (operations_of order) (K.took sink.old) (K.took sink.new) result }
+    ensures unread { (IsTask (map string_bytes words.now) Task.Session → ⊥)
+        → (source.new ≡ source.old) × (shelf.new ≡ shelf.old) }
 
-    // The shelf keeps what it did, and is as it was where no `load` of a session reaches it.
+    // Whatever the words ask: at 4 a write failed, and the shelf keeps what it did.
+    ensures write { result ≡ 4 → Rose (K.faults sink.old) (K.faults sink.new) }
     ensures keeps { H.keeps shelf.new ≡ H.keeps shelf.old }
-    ensures shelf_untouched { IsTask (map string_bytes words.now) Task.Session
-        → IfSome (S.left source.old) (λ bytes. (shelf.new ≡ shelf.old) ⊎ ReachesShelf (known 134217728 (H.keeps shelf.old)) bytes) }
-
     ensures statuses { result ≤ 6 }
 {
     match task_of(words) {
@@ -77,11 +64,13 @@ pub fn run<S: Source, K: Sink, H: Shelf>(
     }
 }
 
-/// A session over bytes and a shelf that tells what it keeps has one text: two texts that it may have
-/// are equal, and both have a refusal line or neither has.
+/// A session over bytes and a shelf that tells what it keeps has one text: two texts that it may
+/// have are equal, and both have a refusal line or neither has.
 pub fn one_text()
-    ensures { (limit : ℕ) (kept : List ℕ → Option (List ℕ)) (bytes text other : List ℕ) (refused also : Bool)
-        → IsSession (known limit (Some kept)) bytes text refused → IsSession (known limit (Some kept)) bytes other also
+    ensures { (limit : ℕ) (kept : List ℕ → Option (List ℕ)) (bytes text other : List ℕ)
+        (refused also : Bool)
+        → IsSession (ledger_protocol (known limit (Some kept))) bytes text refused
+        → IsSession (ledger_protocol (known limit (Some kept))) bytes other also
         → (text ≡ other) × (refused ≡ also) }
 {}
 
@@ -91,10 +80,17 @@ pub fn one_text()
 pub fn run_in_memory(alloc: Global, words: &[String], bytes: Vec<u8>, shelf: &mut SureShelf) -> u8
     requires words { IsTask (map string_bytes words.now) Task.Session }
     requires within { vec_len bytes ≤ 134217728 }
-    requires names_within { (name : List ℕ) → length (kept_or_empty shelf.old.entries.items name) ≤ 134217728 }
+    requires names_within { (name : List ℕ)
+        → length (kept_or_empty shelf.old.entries.items name) ≤ 134217728 }
     ensures statuses { (result ≡ 0) ⊎ (result ≡ 1) ⊎ (result ≡ 5) }
-    ensures well { result ≡ 0 → (text : List ℕ) × IsWholeSession (known 134217728 (Some (λ name. Some (kept_or_empty shelf.old.entries.items name)))) bytes.items text false }
-    ensures refused { result ≡ 1 → (text : List ℕ) × IsWholeSession (known 134217728 (Some (λ name. Some (kept_or_empty shelf.old.entries.items name)))) bytes.items text true }
+    ensures well { result ≡ 0 → (text : List ℕ)
+        × IsWholeSession (ledger_protocol (known 134217728
+        (Some (λ name. Some (kept_or_empty shelf.old.entries.items name)))))
+        bytes.items text false }
+    ensures refused { result ≡ 1 → (text : List ℕ)
+        × IsWholeSession (ledger_protocol (known 134217728
+        (Some (λ name. Some (kept_or_empty shelf.old.entries.items name)))))
+        bytes.items text true }
 {
     let mut source = SureSource::of(bytes);
     let mut sink = SureSink::of();

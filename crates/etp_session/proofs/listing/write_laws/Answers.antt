@@ -1,7 +1,8 @@
 use Rattle.std.proofs.Common.{arith, ◌≡◌, ◌∙◌, sym, ap, None, Some, refl}
 use Rattle.std.specs.Option.{option_map, option_copied, IsSome}
 use Rattle.etp_term.specs.Laws.{equation_of}
-use Rattle.etp_session.proofs.ListingLemmas.{listed-next, listing-ends, listing-cut, listing-cut_last, some-law, lists-no_memory, lists-no_write}
+use Rattle.etp_session.proofs.ListingLemmas.{listed-next, listing-ends, listing-cut, listing-cut_last, some-law}
+use Rattle.etp_session.proofs.WritingLemmas.{writes-no_memory, writes-no_write}
 use Rattle.etp_session.proofs.listing.write_laws.Goals as goal
 
 pub unwrap-law-requires : goal.unwrap-law-requires
@@ -11,12 +12,12 @@ unwrap-law-requires g c =
     (elim c.law.result as (λ o. option_map equation_of (option_copied o) ≡ Some law.0 → IsSome o) [ None ↦ λ h. absurd (cc) | Some x ↦ λ h. refl ]) e
 
 pub returns-in-Err-clause-laws : goal.returns-in-Err-clause-laws
-returns-in-Err-clause-laws g c = lists-no_memory _ _ _ (listing-ends _ _ _ _ _ _ c.law.ensures.list c.listed.invariant.0)
+returns-in-Err-clause-laws g c = writes-no_memory _ _ _ (listing-ends _ _ _ _ _ c.listed.invariant.0)
 
 pub returns-in-Err-write_piece-clause-laws : goal.returns-in-Err-write_piece-clause-laws
 returns-in-Err-write_piece-clause-laws g c =
-    lists-no_write _ _ _
-    (listing-cut _ _ _ _ _ _ _ c.listed.n (equation_of c.unwrap-law.result.now) c.law.ensures.list c.listed.invariant.0
+    writes-no_write _ _ _
+    (listing-cut _ _ _ _ _ _ c.listed.n (equation_of c.unwrap-law.result.now) c.listed.invariant.0
     (sym c.law.ensures.entry ∙ ap (λ o. option_map equation_of (option_copied o)) c.unwrap-law.ensures) c.in-Ok.ensures c.in-Err-write_piece.ensures.err)
 
 pub listed-preserved : goal.listed-preserved
@@ -27,4 +28,4 @@ listed-preserved g c = (
 )
 
 pub returns-clause-laws : goal.returns-clause-laws
-returns-clause-laws g c = lists-no_write _ _ _ (listing-cut_last _ _ _ _ _ c.listed.text c.listed.n c.count-n-end.ensures.list c.listed.invariant.0 (rw c.as_slice.ensures at c.in-Err-write_all.ensures.err))
+returns-clause-laws g c = writes-no_write _ _ _ (listing-cut_last _ _ _ _ c.listed.text c.listed.n c.listed.invariant.0 (rw c.as_slice.ensures at c.in-Err-write_all.ensures.err))

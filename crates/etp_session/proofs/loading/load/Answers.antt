@@ -1,4 +1,3 @@
-use Rattle.std.proofs.Common.{[]}
 use Rattle.etp_reply.specs.Shelves.{known}
 use Rattle.etp_session.proofs.LoadAnswers.{loading-name, loading-lines, answers-loaded}
 use Rattle.etp_session.proofs.loading.load.Goals as goal

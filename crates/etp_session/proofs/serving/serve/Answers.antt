@@ -1,98 +1,86 @@
-use Rattle.std.proofs.Common.{arith, ◌≡◌, ◌+◌, ap, inl, inr, ◌∙◌}
+use Rattle.std.proofs.Common.{arith, ◌≡◌, ◌+◌, ap, inl, refl, ◌∙◌}
 use Rattle.etp_print.proofs.GivenLemmas.{untrue}
 use Rattle.std.specs.Prelude.{Err}
 use Rattle.etp_io.specs.declared.lines.Next.TheVariants.{End}
-use Rattle.etp_session.proofs.Running.{running-then, ends-well, ends-in_reply, ends-before_close, ends-between, ends-in_close, takes-within, takes-now, stops, stops-at_fault, stops-at_name, goes-on, done-close, cut-close, not_done, cut_before, no_write, no_read, no_limit, untouched-yet, untouched-after}
+use Rattle.etp_session.specs.declared.serving.Ending.TheVariants.{ReadFault, WriteFault, NoMemory, TooMuch}
+use Rattle.etp_session.proofs.Running.{running-then, ends-well, ends-in_reply, ends-before_close, ends-between, ends-in_close, takes-within, takes-now, stops, stops-at_fault, stops-at_name, untouched-yet, untouched-after}
+use Rattle.etp_session.proofs.Taking.{goes-on}
+use Rattle.etp_session.proofs.GivenTexts.{gives-line, closes-text, closes-some}
+use Rattle.etp_session.proofs.EndLemmas.{session-ends, close-ends, early-ends, ends-at_once, takes-none, done-close}
 use Rattle.etp_session.proofs.serving.serve.Goals as goal
 
-pub returns-in-Err-ReadFault-clause-read : goal.returns-in-Err-ReadFault-clause-read
-returns-in-Err-ReadFault-clause-read g c _ =
+-- no line was read
+pub returns-in_default : goal.returns-in_default
+returns-in_default g c = session-ends _ _ _ NoMemory (ends-at_once _ _ _, takes-none _ _ _) refl (untouched-yet _ _ _)
+
+pub returns-in-Err-ReadFault : goal.returns-in-Err-ReadFault
+returns-in-Err-ReadFault g c =
     let open_still = c.served.invariant.0.open_still in
     let failed = c.in-Err-ReadFault.is ∙ ap Err c.in-Err-ReadFault.field-0-is in
     let rose = c.next.ensures.read_fault open_still failed in
-    inl (
-      omega (arith, rose, c.served.invariant.2),
-      stops-at_fault _ _ _ _ _ _ _ _ _ _ _ _ c.next.new.self _ _ c.served.invariant.0
-          (goes-on c.next.result _ _ c.in-Err-ReadFault.is (λ t. (c.next.ensures.after_end open_still t).0))
-          (c.next.ensures.before open_still c.served.invariant.0.fits)
-          (c.next.ensures.last_none open_still failed)
-          (rw (c.in-Err-ReadFault.ensures.err, c.in-Err-ReadFault.field-0-is) at c.next.ensures.says) c.next.ensures.limit c.next.ensures.taken c.next.ensures.loses c.next.ensures.given,
+    let says = rw (c.in-Err-ReadFault.ensures.err, c.in-Err-ReadFault.field-0-is) at c.next.ensures.says in
+    session-ends _ _ _ ReadFault (
+      inl (
+        omega (arith, rose, c.served.invariant.2),
+        stops-at_fault _ _ _ _ _ _ _ _ _ _ _ _ c.next.new.self _ _ c.served.invariant.0
+            (goes-on c.next.result _ _ c.in-Err-ReadFault.is (λ t. (c.next.ensures.after_end open_still t).0))
+            (c.next.ensures.before open_still c.served.invariant.0.fits)
+            (c.next.ensures.last_none open_still failed)
+            says c.next.ensures.limit c.next.ensures.taken c.next.ensures.loses c.next.ensures.given,
+      ),
+      takes-within _ _ _ _ _ _ _ _ _ _ _ c.next.new.self _ _ c.served.invariant.0 says c.next.ensures.limit c.next.ensures.taken c.next.ensures.loses c.next.ensures.given,
     )
+    c.served.invariant.6 c.served.invariant.7
 
-pub returns-in-Err-ReadFault-clause-within : goal.returns-in-Err-ReadFault-clause-within
-returns-in-Err-ReadFault-clause-within g c n =
-    takes-within _ _ _ _ _ _ _ _ _ _ _ c.next.new.self _ _ c.served.invariant.0
-    (rw (c.in-Err-ReadFault.ensures.err, c.in-Err-ReadFault.field-0-is) at c.next.ensures.says) c.next.ensures.limit c.next.ensures.taken c.next.ensures.loses c.next.ensures.given
-
-pub returns-in-Err-TooMuch-clause-too_much : goal.returns-in-Err-TooMuch-clause-too_much
-returns-in-Err-TooMuch-clause-too_much g c _ =
+pub returns-in-Err-TooMuch : goal.returns-in-Err-TooMuch
+returns-in-Err-TooMuch g c =
     let open_still = c.served.invariant.0.open_still in
     let says = rw (c.in-Err-TooMuch.ensures.err, c.in-Err-TooMuch.field-0-is) at c.next.ensures.says in
     let amount : c.next.new.self.taken ≡ c.args.limit + 1 = omega (arith, says.0, c.next.ensures.limit, c.served.invariant.0.limited) in
-    inl (
+    session-ends _ _ _ TooMuch
+    (inl (
       rw amount at (takes-now _ _ _ _ _ _ _ _ _ _ _ c.next.new.self _ _ c.served.invariant.0 c.next.ensures.taken c.next.ensures.loses c.next.ensures.given),
       rw amount at (stops _ _ _ _ _ _ _ _ _ _ c.next.new.self _ _ c.served.invariant.0
           (goes-on c.next.result _ _ c.in-Err-TooMuch.is (λ t. (c.next.ensures.after_end open_still t).0))
           (c.next.ensures.before open_still c.served.invariant.0.fits)
           (c.in-Err-TooMuch.ensures.last open_still) c.next.ensures.taken),
-    )
+    ))
+    c.served.invariant.6 c.served.invariant.7
 
-pub returns-then-is_end-clause-done : goal.returns-then-is_end-clause-done
-returns-then-is_end-clause-done g c =
+pub returns-then-is_end : goal.returns-then-is_end
+returns-then-is_end g c =
     let over : c.in-Ok-next.next ≡ End = c.is_end.ensures.0 c.if-is_end.true in
     let end = c.in-Ok-next.ensures.end over in
-    done-close c.close.result _ _ c.close.ensures.done (λ bad w.
-    ends-well _ _ _ _ _ _ _ _ _ _ _ _ c.next.new.self _ bad _ c.served.invariant.0 c.next.ensures.fits (λ f. rw over at (c.in-Ok-next.ensures.lines f)) end.0 end.1 w)
-
-pub returns-then-is_end-clause-cut : goal.returns-then-is_end-clause-cut
-returns-then-is_end-clause-cut g c =
-    let over : c.in-Ok-next.next ≡ End = c.is_end.ensures.0 c.if-is_end.true in
-    let end = c.in-Ok-next.ensures.end over in
-    cut-close c.close.result _ c.close.ensures.ends
+    close-ends _ _ _ c.close.result c.close.ensures.ends
+    (done-close c.close.result _ _ c.close.ensures.done (λ bad w.
+    ends-well _ _ _ _ _ _ _ _ _ _ _ _ c.next.new.self _ bad _ c.served.invariant.0 c.next.ensures.fits (λ f. rw over at (c.in-Ok-next.ensures.lines f)) end.0 end.1 (λ state now. closes-text _ _ _ _ _ _ (w state now))))
     (λ e. ends-before_close _ _ _ _ _ _ _ _ _ _ _ _ c.served.invariant.0 (c.close.ensures.memory e))
-    (λ e. ends-in_close _ _ _ _ _ _ _ _ _ _ _ _ c.next.new.self _ _ c.served.invariant.0 c.next.ensures.fits (λ f. rw over at (c.in-Ok-next.ensures.lines f)) end.0 end.1 (c.close.ensures.write e))
-
-pub returns-then-is_end-clause-read : goal.returns-then-is_end-clause-read
-returns-then-is_end-clause-read g c e = absurd (no_read c.close.result c.close.ensures.ends e)
-
-pub returns-then-is_end-clause-too_much : goal.returns-then-is_end-clause-too_much
-returns-then-is_end-clause-too_much g c e = absurd (no_limit c.close.result c.close.ensures.ends e)
-
-pub returns-then-is_end-clause-within : goal.returns-then-is_end-clause-within
-returns-then-is_end-clause-within g c n =
-    takes-within _ _ _ _ _ _ _ _ _ _ _ c.next.new.self _ _ c.served.invariant.0
-    (rw c.in-Ok-next.ensures.ok at c.next.ensures.says) c.next.ensures.limit c.next.ensures.taken c.next.ensures.loses c.next.ensures.given
+    (λ e. (
+      (let rose = c.close.ensures.cause e in omega (arith, rose, c.served.invariant.3)),
+      ends-in_close _ _ _ _ _ _ _ _ _ _ _ _ c.next.new.self _ _ c.served.invariant.0 c.next.ensures.fits (λ f. rw over at (c.in-Ok-next.ensures.lines f)) end.0 end.1 (λ state now. closes-some _ _ _ _ _ (c.close.ensures.write e state now)),
+    ))
+    (takes-within _ _ _ _ _ _ _ _ _ _ _ c.next.new.self _ _ c.served.invariant.0
+    (rw c.in-Ok-next.ensures.ok at c.next.ensures.says) c.next.ensures.limit c.next.ensures.taken c.next.ensures.loses c.next.ensures.given)
+    c.served.invariant.6 c.served.invariant.7
 
 pub close-requires : goal.close-requires
 close-requires g c = record { state = c.served.invariant.0.state; stands = c.served.invariant.0.stands; laws = c.served.invariant.1 }
 
-pub returns-in-Err-clause-done : goal.returns-in-Err-clause-done
-returns-in-Err-clause-done g c = not_done c.in-Err.ending _ c.in-Err.ensures.errors
-
-pub returns-in-Err-clause-cut : goal.returns-in-Err-clause-cut
-returns-in-Err-clause-cut g c = cut_before c.in-Err.ending _ c.in-Err.ensures.errors (ends-between _ _ _ _ _ _ _ _ _ _ _ c.served.invariant.0)
-
-pub returns-in-Err-clause-read : goal.returns-in-Err-clause-read
-returns-in-Err-clause-read g c e =
+pub returns-in-Err : goal.returns-in-Err
+returns-in-Err g c =
     let more : c.in-Ok-next.next ≡ End → ⊥ = untrue c.is_end.result _ c.is_end.ensures c.if-is_end.false in
     let running = c.served.invariant.0 in
-    let said = c.in-Err.ensures.read (ap Err e) in
-    inr (
+    early-ends _ _ _ c.in-Err.ending c.in-Err.ensures.errors (ends-between _ _ _ _ _ _ _ _ _ _ _ running)
+    (λ e.
+    let said = c.in-Err.ensures.read (ap Err e) in (
       omega (arith, said.0, c.served.invariant.4),
       stops-at_name _ _ _ _ _ _ _ _ _ _ _ c.next.new.self _ c.in-Ok-next.next _ _ running
           c.in-Ok-next.ensures.lines more c.in-Ok-next.ensures.number c.in-Ok-next.ensures.ok c.next.ensures.says c.next.ensures.limit
           c.next.ensures.taken c.next.ensures.loses c.next.ensures.given (rw c.line_read-line.ensures.text at (said.1 running.state running.stands)),
-    )
-
-pub returns-in-Err-clause-write : goal.returns-in-Err-clause-write
-returns-in-Err-clause-write g c e = absurd (no_write c.in-Err.ending c.in-Err.ensures.errors e)
-
-pub returns-in-Err-clause-too_much : goal.returns-in-Err-clause-too_much
-returns-in-Err-clause-too_much g c e =
-    let more : c.in-Ok-next.next ≡ End → ⊥ = untrue c.is_end.result _ c.is_end.ensures c.if-is_end.false in
-    let running = c.served.invariant.0 in
+    ))
+    (λ e.
     let said = c.in-Err.ensures.too_much (ap Err e) running.state running.stands in
-    inr (record {
+    record {
       name = said.name;
       stops = stops-at_name _ _ _ _ _ _ _ _ _ _ _ c.next.new.self _ c.in-Ok-next.next _ _ running
           c.in-Ok-next.ensures.lines more c.in-Ok-next.ensures.number c.in-Ok-next.ensures.ok c.next.ensures.says c.next.ensures.limit
@@ -100,23 +88,31 @@ returns-in-Err-clause-too_much g c e =
       long = rw c.served.invariant.6 at said.long;
       risen = omega (arith, said.risen, c.served.invariant.5);
     })
+    (takes-within _ _ _ _ _ _ _ _ _ _ _ c.next.new.self _ _ running
+    (rw c.in-Ok-next.ensures.ok at c.next.ensures.says) c.next.ensures.limit c.next.ensures.taken c.next.ensures.loses c.next.ensures.given)
+    (c.answer_line.ensures.keeps ∙ c.served.invariant.6)
+    (untouched-after _ _ _ _ _ _ _ _ _ _ _ c.next.new.self _ c.in-Ok-next.next _ _ _ _ running
+    c.in-Ok-next.ensures.lines more c.in-Ok-next.ensures.number c.in-Ok-next.ensures.ok c.next.ensures.says c.next.ensures.limit
+    c.next.ensures.taken c.next.ensures.loses c.next.ensures.given c.served.invariant.7
+    (rw c.line_read-line.ensures.text at (c.answer_line.ensures.untouched running.state running.stands)))
 
-pub returns-in-Err-clause-within : goal.returns-in-Err-clause-within
-returns-in-Err-clause-within g c n =
-    takes-within _ _ _ _ _ _ _ _ _ _ _ c.next.new.self _ _ c.served.invariant.0
-    (rw c.in-Ok-next.ensures.ok at c.next.ensures.says) c.next.ensures.limit c.next.ensures.taken c.next.ensures.loses c.next.ensures.given
-
-pub returns-in-Err-write_all-clause-cut : goal.returns-in-Err-write_all-clause-cut
-returns-in-Err-write_all-clause-cut g c =
+pub returns-in-Err-write_all : goal.returns-in-Err-write_all
+returns-in-Err-write_all g c =
     let more : c.in-Ok-next.next ≡ End → ⊥ = untrue c.is_end.result _ c.is_end.ensures c.if-is_end.false in
-    ends-in_reply _ _ _ _ _ _ _ _ _ _ _ c.next.new.self _ c.in-Ok-answer_line.also c.in-Ok-next.next c.answer_line.new.text _ _ c.served.invariant.0
-    c.in-Ok-next.ensures.lines more c.in-Ok-next.ensures.number (λ state now. rw (c.line_read-line.ensures.text, c.number.ensures.number, c.served.invariant.6) at (c.in-Ok-answer_line.ensures.ok state now))
-    (rw c.as_slice.ensures at c.in-Err-write_all.ensures.err)
-
-pub returns-in-Err-write_all-clause-within : goal.returns-in-Err-write_all-clause-within
-returns-in-Err-write_all-clause-within g c n =
-    takes-within _ _ _ _ _ _ _ _ _ _ _ c.next.new.self _ _ c.served.invariant.0
-    (rw c.in-Ok-next.ensures.ok at c.next.ensures.says) c.next.ensures.limit c.next.ensures.taken c.next.ensures.loses c.next.ensures.given
+    let running = c.served.invariant.0 in
+    session-ends _ _ _ WriteFault (
+      omega (arith, (rw c.in-Err-write_all.is at c.write_all.ensures.cause.failed), c.served.invariant.3),
+      ends-in_reply _ _ _ _ _ _ _ _ _ _ _ c.next.new.self _ c.in-Ok-answer_line.also c.in-Ok-next.next c.answer_line.new.text _ _ running
+          c.in-Ok-next.ensures.lines more c.in-Ok-next.ensures.number (λ state now. gives-line _ _ _ _ _ _ _ (rw (c.line_read-line.ensures.text, c.number.ensures.number, c.served.invariant.6) at (c.in-Ok-answer_line.ensures.ok state now)))
+          (rw c.as_slice.ensures at c.in-Err-write_all.ensures.err),
+      takes-within _ _ _ _ _ _ _ _ _ _ _ c.next.new.self _ _ running
+          (rw c.in-Ok-next.ensures.ok at c.next.ensures.says) c.next.ensures.limit c.next.ensures.taken c.next.ensures.loses c.next.ensures.given,
+    )
+    (c.answer_line.ensures.keeps ∙ c.served.invariant.6)
+    (untouched-after _ _ _ _ _ _ _ _ _ _ _ c.next.new.self _ c.in-Ok-next.next _ _ _ _ running
+    c.in-Ok-next.ensures.lines more c.in-Ok-next.ensures.number c.in-Ok-next.ensures.ok c.next.ensures.says c.next.ensures.limit
+    c.next.ensures.taken c.next.ensures.loses c.next.ensures.given c.served.invariant.7
+    (rw c.line_read-line.ensures.text at (c.answer_line.ensures.untouched running.state running.stands)))
 
 pub served-preserved : goal.served-preserved
 served-preserved g c =
@@ -126,7 +122,7 @@ served-preserved g c =
           (running-then _ _ _ _ _ _ _ _ _ _ _ _ _ c.next.new.self _ c.in-Ok-answer_line.also c.in-Ok-next.next c.answer_line.new.text _ _ c.served.invariant.0
           c.next.ensures.fits c.in-Ok-next.ensures.lines more c.in-Ok-next.ensures.number c.in-Ok-next.ensures.ok c.next.ensures.says c.next.ensures.limit
           (omega (arith, c.number.ensures.counted)) c.next.ensures.taken c.next.ensures.loses c.next.ensures.given
-          (λ state now. rw (c.line_read-line.ensures.text, c.number.ensures.number, c.served.invariant.6) at (c.in-Ok-answer_line.ensures.ok state now))
+          (λ state now. gives-line _ _ _ _ _ _ _ (rw (c.line_read-line.ensures.text, c.number.ensures.number, c.served.invariant.6) at (c.in-Ok-answer_line.ensures.ok state now)))
           (rw c.as_slice.ensures at c.in-Ok-write_all.ensures.ok)),
       c.in-Ok-answer_line.ensures.laws,
       omega (arith, c.served.invariant.2, c.next.ensures.later),
@@ -139,21 +135,3 @@ served-preserved g c =
           c.next.ensures.taken c.next.ensures.loses c.next.ensures.given c.served.invariant.7
           (rw c.line_read-line.ensures.text at (c.answer_line.ensures.untouched running.state running.stands)),
     )
-
-pub returns-in-Err-clause-untouched : goal.returns-in-Err-clause-untouched
-returns-in-Err-clause-untouched g c =
-    let more : c.in-Ok-next.next ≡ End → ⊥ = untrue c.is_end.result _ c.is_end.ensures c.if-is_end.false in
-    let running = c.served.invariant.0 in
-    untouched-after _ _ _ _ _ _ _ _ _ _ _ c.next.new.self _ c.in-Ok-next.next _ _ _ _ running
-    c.in-Ok-next.ensures.lines more c.in-Ok-next.ensures.number c.in-Ok-next.ensures.ok c.next.ensures.says c.next.ensures.limit
-    c.next.ensures.taken c.next.ensures.loses c.next.ensures.given c.served.invariant.7
-    (rw c.line_read-line.ensures.text at (c.answer_line.ensures.untouched running.state running.stands))
-
-pub returns-in-Err-write_all-clause-untouched : goal.returns-in-Err-write_all-clause-untouched
-returns-in-Err-write_all-clause-untouched g c =
-    let more : c.in-Ok-next.next ≡ End → ⊥ = untrue c.is_end.result _ c.is_end.ensures c.if-is_end.false in
-    let running = c.served.invariant.0 in
-    untouched-after _ _ _ _ _ _ _ _ _ _ _ c.next.new.self _ c.in-Ok-next.next _ _ _ _ running
-    c.in-Ok-next.ensures.lines more c.in-Ok-next.ensures.number c.in-Ok-next.ensures.ok c.next.ensures.says c.next.ensures.limit
-    c.next.ensures.taken c.next.ensures.loses c.next.ensures.given c.served.invariant.7
-    (rw c.line_read-line.ensures.text at (c.answer_line.ensures.untouched running.state running.stands))
