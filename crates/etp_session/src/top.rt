@@ -37,8 +37,8 @@ pub fn run<S: Source, K: Sink, H: Shelf>(
     ensures untouched { result ≡ 2
         → (source.new ≡ source.old) × (sink.new ≡ sink.old) × (shelf.new ≡ shelf.old) }
 
-    // A session: `SessionEnds` says what each status means, and at 0 and 1 (`well`, `refused`) that the
-    // whole text was written.
+    // A session: what each status says; at 0 and 1 (`well` and `refused`) the whole text was
+    // written.
     ensures session { IsTask (map string_bytes words.now) Task.Session
         → SessionEnds (ledger_protocol (known 134217728 (H.keeps shelf.old)))
         (streams S.Source K.Sink H.Shelf source.old sink.old shelf.old)
