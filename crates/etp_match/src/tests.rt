@@ -65,6 +65,15 @@ fn a_bound_variable_has_its_value(rt: HostRuntime) {
 }
 
 #[test]
+fn a_single_value_is_given(rt: HostRuntime) {
+    let alloc = rt.alloc();
+    let mut subst = Subst::empty(alloc).expect(&rt, "memory");
+    subst.bind(3, Term::Var(7)).expect(&rt, "memory");
+    let value = subst.get(3).expect(&rt, "a value");
+    assert!(rt; value.same_term(&Term::Var(7)));
+}
+
+#[test]
 fn a_subterm_is_replaced(rt: HostRuntime) {
     let alloc = rt.alloc();
     let product = op(alloc, Term::Var(0), Term::Var(1)).expect(&rt, "memory");

@@ -40,10 +40,12 @@ pub record AreSolved (pairs : List Pair) (earlier later : List Binding) : Type 0
   pub same : (n : ℕ → Tree) → (Respects n (partial_of earlier) × Equates n pairs)
       ↔ Respects n (partial_of later)
 
+-- nothing that respects the values makes all equal
 abbrev pub HaveNoSolution : List Pair → List Binding → Type 0
 HaveNoSolution pairs values =
     (n : ℕ → Tree) → Respects n (partial_of values) → Equates n pairs → ⊥
 
+-- all pairs are equal under the later values, or under none
 abbrev pub IsOutcome : List Pair → List Binding → List Binding → Bool → Type 0
 IsOutcome pairs earlier later true = AreSolved pairs earlier later
 IsOutcome pairs earlier later false = HaveNoSolution pairs earlier
