@@ -3,9 +3,9 @@ ghost use Rattle.std.specs.Prelude.{◌≡◌, ◌≢◌, ◌++◌, IfOk, OnOk, 
 ghost use Rattle.etp_print.specs.RefusalTexts.{body_refusal, found_text, step_place, replay_refusal, file_refusal};
 
 use etp_check::CheckRefusal;
-use etp_reading::BodyRefusal;
 use etp_laws::Numbered;
 use etp_ledger::LedgerRefusal;
+use etp_reading::BodyRefusal;
 use etp_replay::ReplayRefusal;
 use etp_text::Text;
 use std::alloc::{AllocError, Global};

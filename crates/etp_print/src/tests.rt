@@ -2,8 +2,8 @@ use crate::{
     begin_refusal, body_refusal_text, file_refusal_text, refuse, refuse_file, refuse_name,
     refuse_with, replay_text,
 };
-use etp_reading::BodyRefusal;
 use etp_ledger::LedgerRefusal;
+use etp_reading::BodyRefusal;
 use etp_replay::ReplayRefusal;
 use etp_text::Text;
 
