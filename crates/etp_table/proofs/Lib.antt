@@ -5,4 +5,7 @@ pub mod Places
 pub mod Meanings
 pub mod Walking
 pub mod Tables
+pub mod Entries
+pub mod Failures
 pub mod Offences
+pub mod Theorems

@@ -1,45 +1,29 @@
--- A law has one first failing assignment; laws are judged right or there is an offence.
-use Rattle.std.proofs.Common.{◌≡◌, ℕ, ◌<◌, ◌≤◌, ◌⊎◌, inl, inr, All, List, [], ◌∷◌, Some, slice_get, get_or, zero, suc, sym, ◌∙◌, ap, subst, arith, refl}
+-- Laws are judged right or there is a first offence, and it is the only one.
+use Rattle.std.proofs.Common.{◌≡◌, ℕ, ◌<◌, ◌≤◌, ◌⊎◌, inl, inr, All, List, Some, length, take, slice_get, sym, ◌∙◌, ap, subst, arith}
 use Rattle.std.proofs.lemmas.Bool.{cases_order}
+use Rattle.std.proofs.lemmas.List.{get_or-take, length-take}
 use Rattle.std.proofs.lemmas.List.Elements.{All-get_or}
-use Rattle.std.proofs.lemmas.Option.{slice_get_within, get_or_from_slice_get}
+use Rattle.std.proofs.lemmas.Option.{slice_get_within, get_or_from_slice_get, same_Some}
 use Rattle.etp_theory.specs.Trees.{Equation}
-use Rattle.etp_theory.specs.Magmas.{meaning}
 use Rattle.etp_theory.specs.Numbered.{law_numbered}
-use Rattle.etp_theory.specs.Tables.{IsAssignment, assigned, place_of}
-use Rattle.etp_table.specs.Tables.{Table, times}
+use Rattle.etp_table.specs.Tables.{Table}
 use Rattle.etp_table.specs.Points.{values_of}
-use Rattle.etp_table.specs.Verdicts.{variables, assignments, limit, AgreesAt, AgreesBefore, IsFirstFailure}
-use Rattle.etp_table.specs.Judgements.{LawHolds, LawFails, IsJudged, IsHoldsRefused, IsFailsRefused, IsFirstOffence}
-use Rattle.etp_table.specs.Theorems.{left_projection, commutativity, second_point}
-use Rattle.etp_table.specs.declared.point.Point.{Point}
+use Rattle.etp_table.specs.Verdicts.{assignments, limit, AgreesBefore, IsFirstFailure}
+use Rattle.etp_table.specs.Judgements.{LawHolds, LawFails, IsJudged, IsHoldsRefused, IsFailsRefused, IsFirstRefused, IsFirstOffence}
 use Rattle.etp_table.specs.declared.refusal.TableRefusal.{TableRefusal}
 use Rattle.etp_table.specs.declared.refusal.TableRefusal.TheVariants.{TooManyAssignments, HoldsFails, FailsHolds, Entry, NoMemory}
-use Rattle.etp_table.proofs.Places.{one_assignment}
-
-agree_not : (t : Table) (e : Equation) (p : Point) (l r : ℕ) → IsFirstFailure t e p l r → AgreesAt t e (values_of p) → ⊥
-agree_not t e p l r f a = f.differ (f.left_is ∙ a ∙ sym f.right_is)
-
-pub agrees_or_fails : (t : Table) (e : Equation) (p : Point) (l r : ℕ) → AgreesBefore t e limit → IsFirstFailure t e p l r → ⊥
-agrees_or_fails t e p l r a f = agree_not t e p l r f (a (values_of p) f.assignment f.among)
-
-pub one_failure : (t : Table) (e : Equation) (p q : Point) (l r l' r' : ℕ) → IsFirstFailure t e p l r → IsFirstFailure t e q l' r' → (values_of p ≡ values_of q) × (l ≡ l') × (r ≡ r')
-one_failure t e p q l r l' r' f g = one (cases_order (place_of t.size (values_of p)) (place_of t.size (values_of q)))
-  where
-    one : (place_of t.size (values_of p) ≡ place_of t.size (values_of q)) ⊎ ((place_of t.size (values_of p) < place_of t.size (values_of q)) ⊎ (place_of t.size (values_of q) < place_of t.size (values_of p))) → (values_of p ≡ values_of q) × (l ≡ l') × (r ≡ r')
-    one (inl s) =
-        let same : values_of p ≡ values_of q = one_assignment (variables e) t.size (values_of p) (values_of q) f.assignment g.assignment s in (
-          same,
-          f.left_is ∙ ap (λ xs. meaning (times t) (assigned xs) e.left) same ∙ sym g.left_is,
-          f.right_is ∙ ap (λ xs. meaning (times t) (assigned xs) e.right) same ∙ sym g.right_is,
-        )
-    one (inr (inl s)) = absurd (agree_not t e p l r f (g.before (values_of p) f.assignment s))
-    one (inr (inr s)) = absurd (agree_not t e q l' r' g (f.before (values_of q) g.assignment s))
+use Rattle.etp_table.proofs.Failures.{agree_not, agrees_or_fails, one_failure}
 
 -- what holds of all numbers holds of the one at a place
 at_place : (P : ℕ → Type 0) (xs : List ℕ) (place n : ℕ) → slice_get xs place ≡ Some n → All P xs → P n
 at_place P xs place n h all =
     subst P (get_or_from_slice_get xs place n n h) (All-get_or P xs place n (slice_get_within xs place n h) all)
+
+-- and what holds of the numbers up to a place holds of one before it
+before_place : (P : ℕ → Type 0) (xs : List ℕ) (i j n : ℕ) → i < j → slice_get xs i ≡ Some n → All P (take j xs) → P n
+before_place P xs i j n l h all =
+    let within : i < length (take j xs) = omega (arith, length-take j xs, slice_get_within xs i n h) in
+    subst P (get_or-take j xs i n l ∙ get_or_from_slice_get xs i n n h) (All-get_or P (take j xs) i n within all)
 
 held : (laws : List Equation) (t : Table) (n : ℕ) (e : Equation) (r : TableRefusal) → law_numbered laws n ≡ Some e → LawHolds laws t n → IsHoldsRefused t n e r → ⊥
 held laws t n e (TooManyAssignments law size k) s h q =
@@ -64,38 +48,83 @@ failed laws t n e (HoldsFails law point left right) s h q = q
 failed laws t n e (Entry row column value) s h q = q
 failed laws t n e NoMemory s h q = q
 
-pub judged_or_refused : (laws : List Equation) (t : Table) (holds fails : List ℕ) (r : TableRefusal) → IsJudged laws t holds fails → IsFirstOffence laws t holds fails r → ⊥
-judged_or_refused laws t holds fails r j (inl o) =
-    held laws t o.number o.law r o.listed (at_place (LawHolds laws t) holds o.place o.number o.stands j.holding) o.refused
-judged_or_refused laws t holds fails r j (inr p) =
-    let o = p.1 in
-    failed laws t o.number o.law r o.listed (at_place (LawFails laws t) fails o.place o.number o.stands j.failing) o.refused
+one_held_refusal : (t : Table) (n : ℕ) (e : Equation) (r s : TableRefusal) → IsHoldsRefused t n e r → IsHoldsRefused t n e s → r ≡ s
+one_held_refusal t n e (TooManyAssignments law size k) (TooManyAssignments other width m) p q =
+    let a : law ≡ other = p.0 ∙ sym q.0 in
+    let b : size ≡ width = p.1 ∙ sym q.1 in
+    let c : k ≡ m = p.2 ∙ sym q.2 in
+    cc
+one_held_refusal t n e (TooManyAssignments law size k) (HoldsFails other point left right) p q = absurd (omega (arith, p.3, q.1))
+one_held_refusal t n e (HoldsFails law point left right) (TooManyAssignments other size k) p q = absurd (omega (arith, p.1, q.3))
+one_held_refusal t n e (HoldsFails law point left right) (HoldsFails other at x y) p q =
+    let a : law ≡ other = p.0 ∙ sym q.0 in
+    let one = one_failure t e point at left right x y p.2 q.2 in
+    let b : point ≡ at = one.0 in
+    let c : left ≡ x = one.1 in
+    let d : right ≡ y = one.2 in
+    cc
+one_held_refusal t n e (TooManyAssignments law size k) (Entry row column value) p q = absurd q
+one_held_refusal t n e (TooManyAssignments law size k) (FailsHolds other looked_at) p q = absurd q
+one_held_refusal t n e (TooManyAssignments law size k) NoMemory p q = absurd q
+one_held_refusal t n e (HoldsFails law point left right) (Entry row column value) p q = absurd q
+one_held_refusal t n e (HoldsFails law point left right) (FailsHolds other looked_at) p q = absurd q
+one_held_refusal t n e (HoldsFails law point left right) NoMemory p q = absurd q
+one_held_refusal t n e (Entry row column value) s p q = absurd p
+one_held_refusal t n e (FailsHolds law looked_at) s p q = absurd p
+one_held_refusal t n e NoMemory s p q = absurd p
 
--- the example
+one_failed_refusal : (t : Table) (n : ℕ) (e : Equation) (r s : TableRefusal) → IsFailsRefused t n e r → IsFailsRefused t n e s → r ≡ s
+one_failed_refusal t n e (FailsHolds law looked_at) (FailsHolds other count) p q =
+    let a : law ≡ other = p.0 ∙ sym q.0 in
+    let b : looked_at ≡ count = p.1 ∙ sym q.1 in
+    cc
+one_failed_refusal t n e (FailsHolds law looked_at) (Entry row column value) p q = absurd q
+one_failed_refusal t n e (FailsHolds law looked_at) (HoldsFails other point left right) p q = absurd q
+one_failed_refusal t n e (FailsHolds law looked_at) (TooManyAssignments other size k) p q = absurd q
+one_failed_refusal t n e (FailsHolds law looked_at) NoMemory p q = absurd q
+one_failed_refusal t n e (Entry row column value) s p q = absurd p
+one_failed_refusal t n e (HoldsFails law point left right) s p q = absurd p
+one_failed_refusal t n e (TooManyAssignments law size k) s p q = absurd p
+one_failed_refusal t n e NoMemory s p q = absurd p
 
-no_values : IsAssignment 2 2 (0 ∷ 0 ∷ [])
-no_values = record { count = refl; each = at }
-  where
-    at : (i : ℕ) → i < 2 → get_or (0 ∷ 0 ∷ []) i 0 < 2
-    at zero h = omega arith
-    at (suc zero) h = omega arith
-    at (suc (suc i)) h = absurd (omega arith)
+-- where no law is both right and refused, and none refused in two ways
+module _ (laws : List Equation) (IsRight : ℕ → Type 0) (Refused : TableRefusal → ℕ → Equation → Type 0) (not_both : (n : ℕ) (e : Equation) (r : TableRefusal) → law_numbered laws n ≡ Some e → IsRight n → Refused r n e → ⊥) (one_way : (n : ℕ) (e : Equation) (r s : TableRefusal) → Refused r n e → Refused s n e → r ≡ s) (numbers : List ℕ) where
+  right_or_refused : (r : TableRefusal) → All IsRight numbers → IsFirstRefused laws IsRight (Refused r) numbers → ⊥
+  right_or_refused r all o = not_both o.number o.law r o.listed (at_place IsRight numbers o.place o.number o.stands all) o.refused
 
-second_values : IsAssignment 2 2 (0 ∷ 1 ∷ [])
-second_values = record { count = refl; each = at }
-  where
-    at : (i : ℕ) → i < 2 → get_or (0 ∷ 1 ∷ []) i 0 < 2
-    at zero h = omega arith
-    at (suc zero) h = omega arith
-    at (suc (suc i)) h = absurd (omega arith)
+  not_before : (r s : TableRefusal) (o : IsFirstRefused laws IsRight (Refused r) numbers) (p : IsFirstRefused laws IsRight (Refused s) numbers) → o.place < p.place → ⊥
+  not_before r s o p l =
+      not_both o.number o.law r o.listed (before_place IsRight numbers o.place p.place o.number l o.stands p.before) o.refused
 
-pub first_of_two : IsFirstFailure left_projection commutativity second_point 0 1
-first_of_two = record {
-  variables_are = refl;
-  assignment = second_values;
-  among = omega arith;
-  before = λ xs a h. subst (AgreesAt left_projection commutativity) (one_assignment 2 2 (0 ∷ 0 ∷ []) xs no_values a (omega (arith, h))) refl;
-  left_is = refl;
-  right_is = refl;
-  differ = λ e. absurd (omega (arith, e));
-}
+  one_refused : (r s : TableRefusal) → IsFirstRefused laws IsRight (Refused r) numbers → IsFirstRefused laws IsRight (Refused s) numbers → r ≡ s
+  one_refused r s o p = one (cases_order o.place p.place)
+    where
+      one : (o.place ≡ p.place) ⊎ ((o.place < p.place) ⊎ (p.place < o.place)) → r ≡ s
+      one (inl k) =
+          let number : p.number ≡ o.number = same_Some p.number o.number (sym p.stands ∙ ap (slice_get numbers) (sym k) ∙ o.stands) in
+          let law : p.law ≡ o.law = same_Some p.law o.law (sym p.listed ∙ ap (law_numbered laws) number ∙ o.listed) in
+          let here = subst (λ (m : ℕ). Refused s m p.law) number p.refused in
+          one_way o.number o.law r s o.refused (subst (λ (e : Equation). Refused s o.number e) law here)
+      one (inr (inl k)) = absurd (not_before r s o p k)
+      one (inr (inr k)) = absurd (not_before s r p o k)
+
+module _ (laws : List Equation) (t : Table) where
+  holding_or_refused : (holds : List ℕ) (r : TableRefusal) → All (LawHolds laws t) holds → IsFirstRefused laws (LawHolds laws t) (λ n e. IsHoldsRefused t n e r) holds → ⊥
+  holding_or_refused holds =
+      right_or_refused laws (LawHolds laws t) (λ r n e. IsHoldsRefused t n e r) (held laws t) (one_held_refusal t) holds
+
+  failing_or_refused : (fails : List ℕ) (r : TableRefusal) → All (LawFails laws t) fails → IsFirstRefused laws (LawFails laws t) (λ n e. IsFailsRefused t n e r) fails → ⊥
+  failing_or_refused fails =
+      right_or_refused laws (LawFails laws t) (λ r n e. IsFailsRefused t n e r) (failed laws t) (one_failed_refusal t) fails
+
+  pub judged_or_refused : (holds fails : List ℕ) (r : TableRefusal) → IsJudged laws t holds fails → IsFirstOffence laws t holds fails r → ⊥
+  judged_or_refused holds fails r j (inl o) = holding_or_refused holds r j.holding o
+  judged_or_refused holds fails r j (inr p) = failing_or_refused fails r j.failing p.1
+
+  pub one_offence : (holds fails : List ℕ) (r s : TableRefusal) → IsFirstOffence laws t holds fails r → IsFirstOffence laws t holds fails s → r ≡ s
+  one_offence holds fails r s (inl o) (inl p) =
+      one_refused laws (LawHolds laws t) (λ r n e. IsHoldsRefused t n e r) (held laws t) (one_held_refusal t) holds r s o p
+  one_offence holds fails r s (inl o) (inr p) = absurd (holding_or_refused holds r p.0 o)
+  one_offence holds fails r s (inr o) (inl p) = absurd (holding_or_refused holds s o.0 p)
+  one_offence holds fails r s (inr o) (inr p) =
+      one_refused laws (LawFails laws t) (λ r n e. IsFailsRefused t n e r) (failed laws t) (one_failed_refusal t) fails r s o.1 p.1

@@ -9,7 +9,7 @@ use Rattle.etp_theory.specs.Magmas.{meaning}
 use Rattle.etp_theory.specs.Tables.{IsAssignment, assigned, place_of}
 use Rattle.etp_theory.proofs.Tables.{place_below}
 use Rattle.etp_table.specs.Tables.{Table, times}
-use Rattle.etp_table.specs.Points.{values_of}
+use Rattle.etp_table.specs.Points.{values_of, IsPadded}
 use Rattle.etp_table.specs.Verdicts.{variables, assignments, limit, AgreesAt, AgreesBefore, IsFirstFailure}
 use Rattle.etp_table.specs.Compiled.{law_of, IsCompiled, AreValues, SameBelow, assignment_at, IsFirstInRow}
 use Rattle.etp_table.specs.Digits.{AreDigits}
@@ -205,7 +205,7 @@ module _ (t : Table) (c : CompiledLaw) (last : ℕ) (values registers first seco
         place = λ _. ap (λ xs. place_of t.size xs * t.size) next_front ∙ ap (λ p. p * t.size) next ∙ next_place (place_of t.size (take last values)) (walked.place more);
       }
 
-  module _ (value : ℕ) (point : Point) (found : IsFirstInRow t c first second count value) (limited : all ≤ limit) (point_variables : point.variables ≡ last + 1) (values_are : values_of point ≡ take last values ++ value ∷ []) where
+  module _ (value : ℕ) (point : Point) (found : IsFirstInRow t c first second count value) (limited : all ≤ limit) (point_variables : point.variables ≡ last + 1) (values_are : values_of point ≡ take last values ++ value ∷ []) (padded : IsPadded point) where
     value_small : value < t.size
     value_small = let w = found.within in omega arith
 
@@ -221,6 +221,7 @@ module _ (t : Table) (c : CompiledLaw) (last : ℕ) (values registers first seco
     pub failure_is_first : IsFirstFailure t (law_of c) point (get_or second c.left 0) (get_or second c.right 0)
     failure_is_first = record {
       variables_are = point_variables ∙ sym variables_at;
+      padded = padded;
       assignment = subst (λ xs. IsAssignment (variables (law_of c)) t.size xs) (sym are_here) (subst (λ k. IsAssignment k t.size (assignment_at last first value)) (sym variables_at) (assignment_of t last value first few (omega arith) below_first value_small));
       among = let w = found.within in omega (arith, at, w);
       before = subst (AgreesBefore t (law_of c)) (sym at) (agrees value (let s = value_small in omega arith) found.before);

@@ -5,7 +5,7 @@ use Rattle.etp_theory.specs.Magmas.{meaning}
 use Rattle.etp_theory.specs.Magmas as Magmas
 use Rattle.etp_theory.specs.Tables.{IsAssignment, assigned, place_of, below}
 use Rattle.etp_table.specs.Tables.{Table, times}
-use Rattle.etp_table.specs.Points.{values_of}
+use Rattle.etp_table.specs.Points.{values_of, IsPadded}
 use Rattle.etp_table.specs.declared.point.Point.{Point}
 use Rattle.etp_table.specs.declared.point.Verdict.{Verdict}
 use Rattle.etp_table.specs.declared.point.Verdict.TheVariants.{Holds, Fails}
@@ -33,6 +33,7 @@ AgreesBefore t e n = (xs : List ℕ) → IsAssignment (variables e) t.size xs �
 -- the first failing assignment, among those that are looked at, with the values of both sides
 pub record IsFirstFailure (t : Table) (e : Equation) (point : Point) (left right : ℕ) : Type 0 where
   pub variables_are : point.variables ≡ variables e
+  pub padded : IsPadded point
   pub assignment : IsAssignment (variables e) t.size (values_of point)
   pub among : place_of t.size (values_of point) < limit
   pub before : AgreesBefore t e (place_of t.size (values_of point))

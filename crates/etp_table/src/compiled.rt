@@ -4,7 +4,7 @@ ghost use Rattle.etp_theory.specs.Tables.{place_of};
 ghost use Rattle.etp_term.specs.Terms.{tree_of};
 ghost use Rattle.etp_term.specs.Laws.{equation_of};
 ghost use Rattle.etp_table.specs.Tables.{times};
-ghost use Rattle.etp_table.specs.Points.{values_of};
+ghost use Rattle.etp_table.specs.Points.{values_of, IsPadded};
 ghost use Rattle.etp_table.specs.Verdicts.{variables, assignments, limit, IsVerdict};
 ghost use Rattle.etp_table.specs.Programs.{InOrder, Solves};
 ghost use Rattle.etp_table.specs.Compiled.{law_of, IsCompiled, AreValues, SameBelow, IsRowAnswer, assignment_at};
@@ -155,6 +155,7 @@ fn point_of<const K: usize>(assignment: &[u8; K]) -> Point
     requires { K ≤ 8 }
     ensures variables { result.variables ≡ K }
     ensures values { values_of result ≡ assignment.now }
+    ensures padded { IsPadded result }
 {
     let mut values = [0; 8];
     values[..K].copy_from_slice(assignment);

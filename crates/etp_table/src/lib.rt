@@ -17,8 +17,8 @@ pub use point::{Point, Verdict};
 pub use refusal::TableRefusal;
 pub use table::OpTable;
 
-/// A law has one first failing assignment at most, and laws are as they are to be or there is a first
-/// offence, never both.
+/// A law has one first failing assignment at most, entries one first wrong one, and laws one first
+/// offence; and there is none where all is as it is to be.
 pub fn verdict_laws()
     ensures { VerdictLaws }
 {}

@@ -1,5 +1,5 @@
 use Rattle.std.proofs.Common.{refl}
-use Rattle.etp_table.proofs.Offences.{first_of_two}
+use Rattle.etp_table.proofs.Failures.{first_of_two}
 use Rattle.etp_table.proofs.table_examples.Goals as goal
 
 pub returns : goal.returns

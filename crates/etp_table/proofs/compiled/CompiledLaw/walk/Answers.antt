@@ -36,7 +36,7 @@ returns-in-Some g c =
     c.point_of.ensures.values ∙ last_set c.loop-passed.values k c.in-Some.value c.loop-passed.invariant.values_long in
     failure_is_first t c.args.self.now k c.loop-passed.values c.loop-passed.registers c.run.new.registers c.walk_row.new.registers c.loop-passed.passed c.args.looked_at c.min-count.result
     c.requires.compiled at_last c.loop-passed.invariant c.loop-passed-test.true c.run.array_long c.walk_row.array_long kept c.run.ensures.values c.in-Some.ensures.same (omega arith) (omega arith)
-    c.in-Some.value c.point_of.result c.in-Some.ensures.answer limited (c.point_of.ensures.variables ∙ many) values
+    c.in-Some.value c.point_of.result c.in-Some.ensures.answer limited (c.point_of.ensures.variables ∙ many) values c.point_of.ensures.padded
 
 pub advance-requires-clause-digits : goal.advance-requires-clause-digits
 advance-requires-clause-digits g c = λ i h.
