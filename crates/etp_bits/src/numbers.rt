@@ -61,6 +61,17 @@ impl Numbers {
         Ok(())
     }
 
+    /// Appends the items. A list of more than 4294967295 items is want of memory too.
+    pub fn append(&mut self, items: &[u32]) -> Result<(), AllocError>
+        ensures ok { OnOk result (self.new ≡ self.old ++ items.now) }
+        ensures err { OnErr result (self.new ≡ self.old) }
+    {
+        if items.len() > u32::MAX as usize - self.items.len() {
+            return Err(AllocError);
+        }
+        self.items.extend_from_slice(items)
+    }
+
     /// The whole list.
     pub fn as_slice(&self) -> &[u32]
         ensures { result.now ≡ self.now }
