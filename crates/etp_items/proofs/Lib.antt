@@ -1,7 +1,10 @@
 pub mod SideLemmas
 pub mod OneProofLine
+pub mod OneClaimLine
+pub mod OneTableLine
 pub mod OneLine
 pub mod OneProof
+pub mod OneModel
 pub mod OneBody
 pub mod WorkLemmas
 pub mod WrittenLemmas
@@ -10,9 +13,15 @@ pub mod TermTexts
 pub mod TextLines
 pub mod ProofLineBack
 pub mod ProofReads
+pub mod ModelReads
+pub mod ModelListed
 pub mod WrittenReads
+pub mod NumbersFit
+pub mod ModelWritable
 pub mod Writable
 pub mod ShortLines
 pub mod ReadAgain
+pub mod NumberLemmas
+pub mod ModelLemmas
 pub mod ReaderLemmas
 pub mod Theorems

@@ -3,13 +3,15 @@ use Rattle.std.proofs.Common.{◌≡◌, ℕ, ◌≤◌, arith, Bool, true, List
 use Rattle.etp_theory.specs.Numbered.{IsLaw}
 use Rattle.etp_io.specs.Texts.{LineText, whole, too_long, lines_of}
 use Rattle.etp_reading.specs.Reading.{Reads, AreListed}
-use Rattle.etp_items.specs.Bodies.{ProofBody, FileBody, proof}
+use Rattle.etp_items.specs.Bodies.{ProofBody, FileBody, proof, model}
 use Rattle.etp_items.specs.ProofLines.{Version, ProofLine}
 use Rattle.etp_items.specs.BodyLines.{Line, Place, opening, proof_line, bodies}
 use Rattle.etp_items.specs.Reading.{proof_lines, SaysBody, IsReadBody, body_numbers}
-use Rattle.etp_items.specs.Written.{written_proof_line, version_for, written_body, IsWritableBody, IsShortBody}
+use Rattle.etp_items.specs.Written.{written_proof_line, version_for, written_body, IsWritableBody, IsShortBody, HasFewLines}
 use Rattle.etp_items.proofs.Writable.{body_writable}
 use Rattle.etp_items.proofs.TextLines.{given_length}
+use Rattle.etp_items.proofs.ModelReads.{model_lines, model_whole_lines, model_says}
+use Rattle.etp_items.proofs.ModelListed.{model_numbers, model_listed}
 use Rattle.etp_items.proofs.WrittenReads.{proof_given, written_whole, proof_listed, proof_numbers}
 
 length_map : {A B : Type 0} (f : A → B) (xs : List A) → length (map f xs) ≡ length xs
@@ -26,6 +28,7 @@ said_few (whole line ∷ xs) p q saids (inr (said, next, more, says, a, h, e)) =
 -- a body's numbers are those of its lines
 numbers_said : (count : ℕ) (saids : List Line) (b : FileBody) → SaysBody saids b → AreListed bodies count saids → All (IsLaw count) (body_numbers b)
 numbers_said count saids (proof p) (v, e) listed = proof_numbers count v p (rw e at listed)
+numbers_said count saids (model m c) s listed = model_numbers count saids m c s listed
 
 pub listed_numbers : (count : ℕ) (lines : List LineText) (closed : Bool) (b : FileBody) → IsReadBody count lines closed b → All (IsLaw count) (body_numbers b)
 listed_numbers count lines closed b h = numbers_said count h.is_body.saids b h.is_body.says h.listed
@@ -42,8 +45,8 @@ written_few lines p v saids q reads says writable short =
     omega (arith, read, long, many)
 
 pub written_body_read_again : (count : ℕ) (lines : List LineText) (closed : Bool) (b : FileBody)
-    → IsReadBody count lines closed b → IsShortBody b → IsReadBody count (lines_of (written_body b)) true b
-written_body_read_again count lines closed (proof p) h short =
+    → IsReadBody count lines closed b → IsShortBody b → HasFewLines b → IsReadBody count (lines_of (written_body b)) true b
+written_body_read_again count lines closed (proof p) h short few_lines =
     let w : IsWritableBody (proof p) = body_writable lines (proof p) h.is_body in
     let few = written_few lines p h.is_body.says.0 h.is_body.saids h.is_body.are_whole.come h.is_body.are_whole.reads h.is_body.says.1 w short in
     record {
@@ -55,4 +58,12 @@ written_body_read_again count lines closed (proof p) h short =
         says = (version_for p, refl);
       };
       listed = proof_listed count (version_for p) p (listed_numbers count lines closed (proof p) h);
+    }
+written_body_read_again count lines closed (model m c) h short few =
+    let w = body_writable lines (model m c) h.is_body in
+    record {
+      is_closed = refl;
+      few = few;
+      is_body = record { saids = model_lines m c; are_whole = model_whole_lines m c w.0 w.1; says = model_says m c w.0 };
+      listed = model_listed count m c (listed_numbers count lines closed (model m c) h);
     }

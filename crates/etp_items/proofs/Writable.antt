@@ -9,13 +9,16 @@ use Rattle.etp_theory.specs.Proofs.{Lemma}
 use Rattle.etp_text.specs.Grammar.{Begins, IsAtom, IsSide, variable, enclosed, alone, joined, SpellsTerm}
 use Rattle.etp_io.specs.Texts.{LineText, whole, too_long}
 use Rattle.etp_words.specs.Numbers.{is_digit, value_after, is_number, number_of}
-use Rattle.etp_items.specs.Bodies.{FileBody, proof}
+use Rattle.etp_items.specs.TableLines.{table, row}
+use Rattle.etp_items.specs.Claims.{holds, fails}
+use Rattle.etp_items.specs.Bodies.{FileBody, proof, model}
 use Rattle.etp_reading.specs.Reading.{Reads}
 use Rattle.etp_items.specs.ProofLines.{Version, plain, citing, ProofLine, heading, cite, lemma, step, SaysProofLine, reference_of, headed, cite_limit}
-use Rattle.etp_items.specs.BodyLines.{Line, of_proofs, Place, opening, in_proof, proof_line, Says, after, is_complete, bodies}
+use Rattle.etp_items.specs.BodyLines.{Line, of_proofs, of_tables, of_claims, Place, opening, in_proof, proof_line, Says, after, is_complete, bodies}
 use Rattle.etp_items.specs.Reading.{lemma_lines, proof_lines, IsBody}
 use Rattle.etp_items.specs.Written.{IsWritable, IsWritableProofLine, IsWritableBody, version_for}
-use Rattle.etp_items.proofs.ReadBack.{both}
+use Rattle.etp_items.proofs.NumbersFit.{number_fits}
+use Rattle.etp_items.proofs.ModelWritable.{numbers_small, model_writable}
 
 begins_split : (bytes : List ℕ) (ts us : List _) (rest : List ℕ) → Begins bytes (ts ++ us) rest → (middle : List ℕ) × Begins bytes ts middle × Begins middle us rest
 begins_split bytes [] us rest h = (bytes, refl, h)
@@ -40,17 +43,6 @@ mutual
 
 pub term_named : (bytes : List ℕ) (t : Tree) → SpellsTerm bytes t → bound t ≤ 64
 term_named bytes t (ts, (rest, b, a), s) = side_named ts t s bytes rest b
-
-number_small : (is : Bool) (w : List ℕ) (n : ℕ) → is ≡ is_number w → cond is (Some (value_after 0 w)) None ≡ Some n → n < 2 ^ 32
-number_small false w n e f = absurd (cc)
-number_small true w n e f =
-    let all = list_all is_digit w && nat_le 1 (length w) && nat_le (length w) 10 in
-    let k : value_after 0 w ≤ 4294967295 = leb-true (value_after 0 w) 4294967295 (both all (nat_le (value_after 0 w) 4294967295) (sym e)).1 in
-    let same : value_after 0 w ≡ n = cc in
-    omega arith
-
-pub number_fits : (w : List ℕ) (n : ℕ) → number_of w ≡ Some n → n < 2 ^ 32
-number_fits w n e = number_small (is_number w) w n refl e
 
 abbrev pub numbered : Bool → ℕ → ℕ × Bool
 numbered c n = (n, c)
@@ -80,6 +72,10 @@ proof_line_writable line (step x) s = (reference_fits s.reference x.line x.cited
 
 says_writable : (line : List ℕ) (l : Line) → Says line l → IsWritable l
 says_writable line (of_proofs, l) s = proof_line_writable line l s
+says_writable line (of_tables, table size) s = number_fits s.word size s.said
+says_writable line (of_tables, row entries) s = numbers_small line _ entries s
+says_writable line (of_claims, holds numbers) s = numbers_small line _ numbers s.says
+says_writable line (of_claims, fails numbers) s = numbers_small line _ numbers s.says
 
 reads_writable : (p q : Place) (xs : List LineText) (saids : List Line) → Reads bodies p xs saids q → AllByRecursion IsWritable saids
 reads_writable p q [] saids h = subst (AllByRecursion IsWritable) (sym h.0) tt
@@ -184,3 +180,6 @@ body_writable lines (proof p) h =
       omega arith,
       All-from_recursion IsWritableProofLine (proof_lines (version_for p) p) all,
     )
+body_writable lines (model m claims) h =
+    model_writable lines h.saids m claims h.are_whole.come h.are_whole.complete h.are_whole.reads
+    (reads_writable opening h.are_whole.come lines h.saids h.are_whole.reads) h.says

@@ -6,7 +6,7 @@ use Rattle.etp_theory.specs.Numbered.{IsLaw}
 use Rattle.etp_theory.specs.Proofs.{ProofStep, Lemma}
 use Rattle.etp_io.specs.Texts.{LineText, lines_of}
 use Rattle.etp_reading.specs.Reading.{Reads, AreWhole, AreListed}
-use Rattle.etp_items.specs.Bodies.{ProofBody, FileBody, proof}
+use Rattle.etp_items.specs.Bodies.{ProofBody, FileBody, proof, model}
 use Rattle.etp_items.specs.ProofLines.{Version, ProofLine, heading, cite, lemma, step, within}
 use Rattle.etp_items.specs.BodyLines.{Line, opening, in_proof, proof_line, numbers_of, bodies}
 use Rattle.etp_items.specs.Reading.{lemma_lines, proof_lines, IsBody, body_numbers}
@@ -14,6 +14,7 @@ use Rattle.etp_items.specs.Written.{written_proof_line, is_citing, version_for, 
 use Rattle.etp_items.proofs.TextLines.{as_given, IsTextLine, lines_back}
 use Rattle.etp_items.proofs.ProofLineBack.{line_text}
 use Rattle.etp_items.proofs.ProofReads.{read_version}
+use Rattle.etp_items.proofs.ModelReads.{model_lines, model_whole_lines, model_says}
 
 text_lines : (ls : List ProofLine) → AllByRecursion IsWritableProofLine ls → AllByRecursion IsShortProofLine ls → AllByRecursion (IsTextLine written_proof_line) ls
 text_lines [] h k = tt
@@ -44,6 +45,11 @@ written_body_reads (proof p) writable short = record {
   saids = map proof_line (proof_lines (version_for p) p);
   are_whole = written_whole p writable short;
   says = (version_for p, refl);
+}
+written_body_reads (model m c) (w, k) short = record {
+  saids = model_lines m c;
+  are_whole = model_whole_lines m c w k;
+  says = model_says m c w;
 }
 
 -- the lines of a proof have the law numbers of its heading

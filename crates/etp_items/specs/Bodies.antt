@@ -3,6 +3,8 @@ use Rattle.std.specs.Prelude.{ℕ, List, map}
 use Rattle.etp_theory.specs.Proofs.{Lemma}
 use Rattle.etp_proof.specs.Lemmas.{lemma_of}
 use Rattle.etp_proof.specs.declared.proof.Proof.{Proof}
+use Rattle.etp_items.specs.Claims.{Claims}
+use Rattle.etp_items.specs.declared.body.Claims as Declared
 use Rattle.etp_items.specs.declared.body.Body.{Body}
 use Rattle.etp_items.specs.declared.body.Body.TheVariants as Program
 
@@ -14,9 +16,16 @@ pub record ProofBody : Type 0 where
   pub cites : List (List ℕ)
   pub lemmas : List Lemma
 
+-- a magma that is to be a model of laws
+pub data Model : Type 0 where
+  -- an operation table of this size with these entries, row by row
+  table : ℕ → List ℕ → Model
+
 -- what the lines of a file are
 pub data FileBody : Type 0 where
   proof : ProofBody → FileBody
+  -- a magma, laws that hold in it and laws that fail
+  model : Model → Claims → FileBody
 
 -- the proof that a value of the program stands for
 abbrev pub proof_of : Proof → ProofBody
@@ -27,6 +36,11 @@ proof_of p = record {
   lemmas = map lemma_of p.lemmas;
 }
 
+-- the claims
+abbrev pub claims_of : Declared.Claims → Claims
+claims_of c = record { holds = c.holds; fails = c.fails }
+
 -- and the body
 abbrev pub body_of : Body → FileBody
 body_of (Program.Proof p) = proof (proof_of p)
+body_of (Program.Table t) = model (table t.size t.entries) (claims_of t.claims)

@@ -1,4 +1,6 @@
 pub mod Sides
+pub mod Claims
+pub mod TableLines
 pub mod Bodies
 pub mod ProofLines
 pub mod BodyLines

@@ -6,8 +6,10 @@ use Rattle.etp_reading.specs.Reading as Lines
 use Rattle.etp_reading.specs.Reading.{AreWhole, AreListed, line_limit}
 use Rattle.etp_reading.specs.declared.refusal.BodyRefusal.{BodyRefusal}
 use Rattle.etp_items.specs.ProofLines.{Version, ProofLine, heading, cite, lemma, step}
-use Rattle.etp_items.specs.BodyLines.{Line, proof_line, bodies}
-use Rattle.etp_items.specs.Bodies.{ProofBody, FileBody, proof}
+use Rattle.etp_items.specs.TableLines.{TableLine, SaysRows}
+use Rattle.etp_items.specs.Claims.{ClaimLine, Claims, SaysClaims}
+use Rattle.etp_items.specs.BodyLines.{Line, proof_line, table_line, claim_line, bodies}
+use Rattle.etp_items.specs.Bodies.{ProofBody, Model, table, FileBody, proof, model}
 
 -- the lines of lemmas: each lemma's start, and its steps
 abbrev pub lemma_lines : List Lemma → List ProofLine
@@ -18,9 +20,23 @@ lemma_lines (l ∷ ls) = lemma l.start ∷ (map step l.steps ++ lemma_lines ls)
 abbrev pub proof_lines : Version → ProofBody → List ProofLine
 proof_lines version p = heading version p.hypothesis p.goal ∷ (map cite p.cites ++ lemma_lines p.lemmas)
 
+-- the lines tell this magma
+abbrev pub SaysModel : List Line → Model → Type 0
+SaysModel saids (table size entries) =
+    (lines : List TableLine) × (saids ≡ map table_line lines) × SaysRows lines size entries
+
+-- lines that tell a magma, and behind them claims
+pub record SaysClaimed (saids : List Line) (m : Model) (claims : Claims) : Type 0 where
+  pub head : List Line
+  pub behind : List ClaimLine
+  pub whole : saids ≡ head ++ map claim_line behind
+  pub says_model : SaysModel head m
+  pub says_claims : SaysClaims behind claims
+
 -- what the lines say is this body
 abbrev pub SaysBody : List Line → FileBody → Type 0
 SaysBody saids (proof p) = (version : Version) × (saids ≡ map proof_line (proof_lines version p))
+SaysBody saids (model m claims) = SaysClaimed saids m claims
 
 -- the lines are this body
 pub record IsBody (lines : List LineText) (body : FileBody) : Type 0 where
@@ -42,3 +58,4 @@ pub record IsReadBody (count : ℕ) (lines : List LineText) (closed : Bool) (bod
 -- the law numbers of a body, in the order of its lines
 abbrev pub body_numbers : FileBody → List ℕ
 body_numbers (proof p) = p.hypothesis ∷ p.goal ∷ []
+body_numbers (model m claims) = claims.holds ++ claims.fails

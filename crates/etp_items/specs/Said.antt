@@ -4,7 +4,18 @@ use Rattle.etp_words.specs.Words.{words_of, behind_word}
 use Rattle.etp_term.specs.Terms.{tree_of}
 use Rattle.etp_proof.specs.Lemmas.{step_of}
 use Rattle.etp_items.specs.ProofLines.{Version, plain, citing, ProofLine, heading, cite, lemma, step, reference_of, reversed_of}
-use Rattle.etp_items.specs.BodyLines.{Line, proof_line}
+use Rattle.etp_items.specs.TableLines.{TableLine, table, row}
+use Rattle.etp_items.specs.Claims.{ClaimLine, holds, fails}
+use Rattle.etp_items.specs.BodyLines as Lines
+use Rattle.etp_items.specs.BodyLines.{of_proofs, of_tables, of_claims, proof_line, table_line, claim_line}
+use Rattle.etp_items.specs.declared.table.lines.TableLine as Tables
+use Rattle.etp_items.specs.declared.table.lines.TableLine.TheVariants.{Table, Row}
+use Rattle.etp_items.specs.declared.claims.lines.ClaimLine as Claims
+use Rattle.etp_items.specs.declared.claims.lines.ClaimLine.TheVariants.{Holds, Fails}
+use Rattle.etp_items.specs.declared.lines.Kind.{Kind}
+use Rattle.etp_items.specs.declared.lines.Kind.TheVariants.{OfProofs, OfTables, OfClaims}
+use Rattle.etp_items.specs.declared.lines.Line.{Line}
+use Rattle.etp_items.specs.declared.lines.Line.TheVariants as Spoken
 use Rattle.etp_items.specs.declared.proof.lines.Version as Versions
 use Rattle.etp_items.specs.declared.proof.lines.Version.TheVariants.{Plain, Citing}
 use Rattle.etp_items.specs.declared.proof.lines.ProofLine as Program
@@ -28,9 +39,27 @@ proof_line_of (Cite name) = cite name
 proof_line_of (Lemma t) = lemma (tree_of t)
 proof_line_of (Step x) = step (step_of x)
 
+-- what a line of a table said
+abbrev pub table_line_of : Tables.TableLine → TableLine
+table_line_of (Table size) = table size
+table_line_of (Row entries) = row entries
+
+-- what a line of claims said
+abbrev pub claim_line_of : Claims.ClaimLine → ClaimLine
+claim_line_of (Holds numbers) = holds numbers
+claim_line_of (Fails numbers) = fails numbers
+
+-- the kind of a line
+abbrev pub kind_of : Kind → Lines.Kind
+kind_of OfProofs = of_proofs
+kind_of OfTables = of_tables
+kind_of OfClaims = of_claims
+
 -- what a line said
-abbrev pub line_of : Program.ProofLine → Line
-line_of line = proof_line (proof_line_of line)
+abbrev pub line_of : Line → Lines.Line
+line_of (Spoken.Proof line) = proof_line (proof_line_of line)
+line_of (Spoken.Table line) = table_line (table_line_of line)
+line_of (Spoken.Claim line) = claim_line (claim_line_of line)
 
 -- the line has these words of a step, and this text where its term stands
 pub record HasStepWords (line : List ℕ) (w : StepWords) : Type 0 where

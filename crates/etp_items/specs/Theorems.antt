@@ -8,7 +8,7 @@ use Rattle.etp_items.specs.Bodies.{FileBody, ProofBody, proof}
 use Rattle.etp_words.specs.Words.{IsBlankLine}
 use Rattle.etp_items.specs.BodyLines.{Line, Says}
 use Rattle.etp_items.specs.Reading.{IsBody, IsReadBody, body_numbers, Refuses}
-use Rattle.etp_items.specs.Written.{written_body, IsWritableBody, IsShortBody}
+use Rattle.etp_items.specs.Written.{written_body, IsWritableBody, IsShortBody, HasFewLines}
 use Rattle.etp_reading.specs.declared.refusal.BodyRefusal.{BodyRefusal}
 
 -- lines, bodies, refusals and the written form
@@ -30,9 +30,10 @@ pub record BodyLaws : Type 0 where
   -- what is read can be written, and what is written in short lines is read again
   pub body_writable : (lines : List LineText) (b : FileBody) → IsBody lines b → IsWritableBody b
   pub written_body_reads : (b : FileBody) → IsWritableBody b → IsShortBody b → IsBody (lines_of (written_body b)) b
-  -- so it is with its closing and its numbers, in no more lines than were read
+  -- so it is with its closing and its numbers
   pub written_body_read_again : (count : ℕ) (lines : List LineText) (closed : Bool) (b : FileBody)
-      → IsReadBody count lines closed b → IsShortBody b → IsReadBody count (lines_of (written_body b)) true b
+      → IsReadBody count lines closed b → IsShortBody b → HasFewLines b
+      → IsReadBody count (lines_of (written_body b)) true b
   -- each line of a valid proof is written short, since a position that is in a term is shorter than the term
   pub valid_body_short : (hypothesis goal : Equation) (cites : List Equation) (p : ProofBody)
       → IsValidProof hypothesis goal cites p.lemmas → IsWritableBody (proof p) → IsShortBody (proof p)

@@ -1,5 +1,6 @@
 -- What a reader has read of a body.
-use Rattle.std.specs.Prelude.{◌≡◌, ℕ, Bool, true, false, List, [], ◌∷◌, ◌++◌, length, map, Option, Some, None}
+use Rattle.std.specs.Prelude.{◌≡◌, ◌≤◌, nat_eq, All, if◌then◌else◌, ℕ, Bool, true, false, List, [], ◌∷◌, ◌++◌, length, map, Option, Some, None}
+use Rattle.std.specs.List.{concat}
 use Rattle.etp_io.specs.Texts.{LineText, whole}
 use Rattle.etp_words.specs.Words.{IsBlankLine}
 use Rattle.etp_reading.specs.Reading.{HasNoPlace}
@@ -7,13 +8,18 @@ use Rattle.etp_reading.specs.Tallies.{HasTallied, HasFirst}
 use Rattle.etp_proof.specs.declared.proof.Lemma.{Lemma}
 use Rattle.etp_proof.specs.declared.label.Label.{Label}
 use Rattle.etp_items.specs.ProofLines.{Version, ProofLine, ProofPlace, headed, within, after_in_proof}
-use Rattle.etp_items.specs.BodyLines.{Line, Place, opening, in_proof, proof_line, after_opening, after, is_complete, Says, numbers_of, bodies}
-use Rattle.etp_items.specs.Bodies.{FileBody, proof_of}
+use Rattle.etp_items.specs.TableLines.{TableLine, table, row, Rows, after_in_table}
+use Rattle.etp_items.specs.Claims.{ClaimLine, SaysClaims, ClaimPlace, holding, failing, first_claim, after_claim}
+use Rattle.etp_items.specs.BodyLines as Lines
+use Rattle.etp_items.specs.BodyLines.{Line, in_head, in_claims, table_line, claim_line, Place, opening, in_proof, proof_line, after_opening, after, is_complete, Says, numbers_of, bodies}
+use Rattle.etp_items.specs.Bodies.{FileBody, proof_of, claims_of}
 use Rattle.etp_items.specs.Said.{version_of}
 use Rattle.etp_items.specs.Reading.{proof_lines, SaysBody}
 use Rattle.etp_items.specs.declared.proof.work.ProofWork.{ProofWork}
+use Rattle.etp_items.specs.declared.table.work.TableWork.{TableWork}
+use Rattle.etp_items.specs.declared.claims.work.ClaimsWork.{ClaimsWork}
 use Rattle.etp_items.specs.declared.work.Work.{Work}
-use Rattle.etp_items.specs.declared.work.Work.TheVariants.{Opening, Proof}
+use Rattle.etp_items.specs.declared.work.Work.TheVariants.{Opening, Proof, Model}
 use Rattle.etp_items.specs.declared.reader.Next.{Next}
 use Rattle.etp_items.specs.declared.reader.Next.TheVariants.{Blank, Bad, Taken}
 use Rattle.etp_items.specs.declared.reader.BodyReader.{BodyReader}
@@ -42,10 +48,79 @@ TakesInProof old said new true =
     (after_in_proof (proof_place old) said ≡ Some (proof_place new)) × (proof_said new ≡ proof_said old ++ said ∷ [])
 TakesInProof old said new false = after_in_proof (proof_place old) said ≡ None
 
+-- these rows of a table have been read
+pub record HasRows (w : TableWork) (rows : List (List ℕ)) : Type 0 where
+  pub some : 1 ≤ w.size
+  pub count_is : w.rows ≡ length rows
+  pub few : length rows ≤ w.size
+  pub each : All (λ entries. length entries ≡ w.size) rows
+  pub entries_are : w.entries ≡ concat rows
+
+-- a size opens a table, and no other line
+abbrev pub OpensTable : TableLine → Option TableWork → Type 0
+OpensTable said None = after_opening (table_line said) ≡ None
+OpensTable said (Some w) = (said ≡ table w.size) × (w.size ≤ 255) × HasRows w []
+
+-- how far a table with these rows has come
+abbrev pub rows_place : TableWork → List (List ℕ) → Rows
+rows_place w rows = record { size = w.size; count = length rows }
+
+-- the work goes on with this row
+pub record TakesRow (old new : TableWork) (said : TableLine) (rows : List (List ℕ)) : Type 0 where
+  pub entries : List ℕ
+  pub said_is : said ≡ row entries
+  pub size_is : new.size ≡ old.size
+  pub stands : after_in_table (rows_place old rows) said ≡ Some (rows_place new (rows ++ entries ∷ []))
+  pub now : HasRows new (rows ++ entries ∷ [])
+
+-- a row that may stand is taken, and no other line
+abbrev pub TakesInTable : TableWork → TableLine → TableWork → Bool → Type 0
+TakesInTable old said new true = (rows : List (List ℕ)) → HasRows old rows → TakesRow old new said rows
+TakesInTable old said new false =
+    (rows : List (List ℕ)) → HasRows old rows → after_in_table (rows_place old rows) said ≡ None
+
+-- all rows stand
+abbrev pub is_told_by : TableWork → Bool
+is_told_by w = nat_eq w.rows w.size
+
+-- how far claims have come
+abbrev pub claim_at : Bool → ClaimPlace
+claim_at true = failing
+claim_at false = holding
+
+abbrev pub claim_place : ClaimsWork → ClaimPlace
+claim_place w = claim_at w.failing
+
+-- these lines of claims have been read
+pub record HasClaims (w : ClaimsWork) (lines : List ClaimLine) : Type 0 where
+  pub says : SaysClaims lines (claims_of w.claims)
+  pub stage : w.failing ≡ false → says.failed ≡ []
+
+-- laws that are to hold open claims
+abbrev pub OpensClaims : ClaimLine → Option ClaimsWork → Type 0
+OpensClaims said None = first_claim said ≡ None
+OpensClaims said (Some w) = (first_claim said ≡ Some (claim_place w)) × HasClaims w (said ∷ [])
+
+-- a line that may stand among claims is taken, and no other
+abbrev pub TakesInClaims : ClaimsWork → ClaimLine → ClaimsWork → Bool → Type 0
+TakesInClaims old said new true =
+    (after_claim (claim_place old) said ≡ Some (claim_place new))
+    × ((lines : List ClaimLine) → HasClaims old lines → HasClaims new (lines ++ said ∷ []))
+TakesInClaims old said new false = after_claim (claim_place old) said ≡ None
+
+-- the lines of a magma and its claims have come to this place and said this
+abbrev pub HasModel : TableWork → Option ClaimsWork → Place → List Line → Type 0
+HasModel w None place saids = (rows : List (List ℕ)) × HasRows w rows × (place ≡ in_head (Lines.rows (rows_place w rows)))
+    × (saids ≡ map table_line (table w.size ∷ map row rows))
+HasModel w (Some c) place saids = (rows : List (List ℕ)) × (lines : List ClaimLine) × HasRows w rows × HasClaims c lines
+    × (length rows ≡ w.size) × (place ≡ in_claims (claim_place c))
+    × (saids ≡ map table_line (table w.size ∷ map row rows) ++ map claim_line lines)
+
 -- the lines of the work have come to this place and said this
 abbrev pub HasCome : Work → Place → List Line → Type 0
 HasCome Opening place saids = (place ≡ opening) × (saids ≡ [])
 HasCome (Proof w) place saids = (place ≡ in_proof (proof_place w)) × (saids ≡ map proof_line (proof_said w))
+HasCome (Model w) place saids = HasModel w.magma w.claims place saids
 
 -- the work goes on from one place to another
 pub record GoesOn (old new : Work) (said : Line) (place : Place) (saids : List Line) : Type 0 where

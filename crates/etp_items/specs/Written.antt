@@ -1,15 +1,20 @@
 -- Bodies as they are written.
-use Rattle.std.specs.Prelude.{◌<◌, ◌≤◌, ◌^◌, ℕ, length, All, Bool, true, false, not, ◌||◌, List, [], ◌∷◌, ◌++◌, map, codes, decimal, if◌then◌else◌}
+use Rattle.std.specs.Prelude.{◌≡◌, ◌*◌, ◌<◌, ◌≤◌, ◌^◌, ℕ, zero, suc, length, take, drop, All, Bool, true, false, not, ◌||◌, List, [], ◌∷◌, ◌++◌, map, codes, decimal, if◌then◌else◌}
 use Rattle.std.specs.List.{list_any}
 use Rattle.etp_theory.specs.Trees.{bound, leaves}
 use Rattle.etp_theory.specs.Positions.{Side, to_left, to_right}
 use Rattle.etp_theory.specs.Proofs.{ProofStep, Lemma}
+use Rattle.etp_io.specs.Texts.{lines_of}
+use Rattle.etp_reading.specs.Reading.{line_limit}
 use Rattle.etp_text.specs.Written.{written_term}
 use Rattle.etp_text.specs.Refusals.{side_limit}
 use Rattle.etp_proof.specs.Names.{IsName}
-use Rattle.etp_items.specs.Bodies.{ProofBody, FileBody, proof}
+use Rattle.etp_items.specs.Bodies.{ProofBody, Model, table, FileBody, proof, model}
 use Rattle.etp_items.specs.ProofLines.{Version, plain, citing, version_word, ProofLine, heading, cite, lemma, step, cite_limit}
-use Rattle.etp_items.specs.BodyLines.{Line, of_proofs}
+use Rattle.etp_items.specs.TableLines as Tables
+use Rattle.etp_items.specs.TableLines.{TableLine, row}
+use Rattle.etp_items.specs.Claims.{ClaimLine, Claims, holds, fails}
+use Rattle.etp_items.specs.BodyLines.{Line, of_proofs, of_tables, of_claims}
 use Rattle.etp_items.specs.Reading.{proof_lines}
 
 -- the number of a line, or `c` and that of a cite
@@ -74,9 +79,47 @@ is_citing p = not (is_empty p.cites) || list_any has_cited p.lemmas
 abbrev pub version_for : ProofBody → Version
 version_for p = if is_citing p then citing else plain
 
+-- each number behind a space
+abbrev pub spaced_behind : List ℕ → List ℕ
+spaced_behind [] = []
+spaced_behind (number ∷ numbers) = 32 ∷ (decimal number ++ spaced_behind numbers)
+
+-- a first word and numbers
+abbrev pub written_numbers : List ℕ → List ℕ → List ℕ
+written_numbers word numbers = word ++ spaced_behind numbers
+
+-- each line of a table by its words
+abbrev pub written_table_line : TableLine → List ℕ
+written_table_line (Tables.table size) = written_numbers (codes "table") (size ∷ [])
+written_table_line (row entries) = written_numbers (codes "row") entries
+
+-- and each line of claims
+abbrev pub written_claim_line : ClaimLine → List ℕ
+written_claim_line (holds numbers) = written_numbers (codes "holds") numbers
+written_claim_line (fails numbers) = written_numbers (codes "fails") numbers
+
+-- at most k pieces of n numbers
+abbrev pub pieces : ℕ → ℕ → List ℕ → List (List ℕ)
+pieces n k [] = []
+pieces n zero (x ∷ xs) = []
+pieces n (suc k) (x ∷ xs) = take n (x ∷ xs) ∷ pieces n k (drop n (x ∷ xs))
+
+-- pieces of n numbers, the last with the rest
+abbrev pub cut : ℕ → List ℕ → List (List ℕ)
+cut n numbers = pieces n (length numbers) numbers
+
+-- the lines of a magma as they are written
+abbrev pub model_text : Model → List ℕ
+model_text (table size entries) = written_by written_table_line (Tables.table size ∷ map row (cut size entries))
+
+-- the lines of claims as they are written
+abbrev pub claim_lines : Claims → List ClaimLine
+claim_lines claims = map holds (cut 100 claims.holds) ++ map fails (cut 100 claims.fails)
+
 -- the text of a body
 abbrev pub written_body : FileBody → List ℕ
 written_body (proof p) = written_proof_lines (proof_lines (version_for p) p)
+written_body (model m claims) = model_text m ++ written_by written_claim_line (claim_lines claims)
 
 -- the line can be written so that it is read back: names are names, numbers are below 2^32, and terms have
 -- variables with a name and at most 255 leaves
@@ -86,19 +129,52 @@ IsWritableProofLine (cite name) = IsName name
 IsWritableProofLine (lemma start) = (bound start ≤ 64) × (leaves start ≤ side_limit)
 IsWritableProofLine (step x) = (x.line < 2 ^ 32) × (bound x.to ≤ 64) × (leaves x.to ≤ side_limit)
 
+-- numbers below 2^32
+abbrev pub AreNumbers : List ℕ → Type 0
+AreNumbers = All (λ n. n < 2 ^ 32)
+
 abbrev pub IsWritable : Line → Type 0
 IsWritable (of_proofs, said) = IsWritableProofLine said
+IsWritable (of_tables, Tables.table size) = size < 2 ^ 32
+IsWritable (of_tables, row entries) = AreNumbers entries
+IsWritable (of_claims, holds numbers) = AreNumbers numbers
+IsWritable (of_claims, fails numbers) = AreNumbers numbers
 
 -- the line is written in at most 4096 bytes
 abbrev pub IsShortProofLine : ProofLine → Type 0
 IsShortProofLine line = length (written_proof_line line) ≤ 4096
+
+-- a table has a size from 1 to 255 and size times size entries
+abbrev pub IsWritableModel : Model → Type 0
+IsWritableModel (table size entries) =
+    (1 ≤ size) × (size ≤ 255) × (length entries ≡ size * size) × AreNumbers entries
+
+-- the condition of the written form: a table has a size of at least 1
+abbrev pub HasSize : FileBody → Type 0
+HasSize (proof p) = Unit {0}
+HasSize (model (table size entries) claims) = 1 ≤ size
+
+-- there are laws that are to hold and laws that are to fail
+pub record AreWritableClaims (claims : Claims) : Type 0 where
+  pub some_hold : 0 < length claims.holds
+  pub some_fail : 0 < length claims.fails
+  pub holds_small : AreNumbers claims.holds
+  pub fails_small : AreNumbers claims.fails
 
 -- the body has a lemma and at most 64 cites, and each of its lines can be written
 abbrev pub IsWritableBody : FileBody → Type 0
 IsWritableBody (proof p) =
     (0 < length p.lemmas) × (length p.cites ≤ cite_limit)
     × All IsWritableProofLine (proof_lines (version_for p) p)
+IsWritableBody (model m claims) = IsWritableModel m × AreWritableClaims claims
 
 -- each of its lines is short
 abbrev pub IsShortBody : FileBody → Type 0
 IsShortBody (proof p) = All IsShortProofLine (proof_lines (version_for p) p)
+IsShortBody (model m claims) = Unit {0}
+
+-- The written form has no more lines than a body may have. A proof has no more than were read; claims
+-- may have stood in fewer, longer lines.
+abbrev pub HasFewLines : FileBody → Type 0
+HasFewLines (proof p) = Unit {0}
+HasFewLines (model m claims) = length (lines_of (written_body (model m claims))) ≤ line_limit

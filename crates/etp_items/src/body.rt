@@ -1,3 +1,4 @@
+use etp_bits::Numbers;
 use etp_proof::Proof;
 
 /// What the lines of a file say.
@@ -5,4 +6,21 @@ use etp_proof::Proof;
 pub enum Body {
     /// A proof of one law from another by rewriting.
     Proof(Proof),
+    /// An operation table that is to be a model of laws.
+    Table(TableBody),
+}
+
+/// An operation table, its entries row by row, and what it is to show.
+#[derive(Drop)]
+pub struct TableBody {
+    pub size: u8,
+    pub entries: Numbers,
+    pub claims: Claims,
+}
+
+/// The numbers of the laws that are to hold in a magma, and of those that are to fail there.
+#[derive(Drop)]
+pub struct Claims {
+    pub holds: Numbers,
+    pub fails: Numbers,
 }

@@ -1,4 +1,8 @@
 // Bodies by their lines, and what is written of them.
+ghost use Rattle.std.specs.Prelude.{IsTrue};
+ghost use Rattle.etp_items.specs.Bodies.{body_of};
+ghost use Rattle.etp_items.specs.Written.{HasSize};
+
 use crate::{Body, BodyReader, BodyRefusal, body_text, lemma_line, step_line};
 use etp_proof::{Proof, Step};
 use etp_term::{Position, Side};
@@ -78,12 +82,7 @@ fn bodies_are_read_or_refused(rt: HostRuntime) {
         (&[Some("proof2 4 3"), Some("proof2 4 3")], bad(2)),
     ];
     for (lines, expected) in cases {
-        let case = Case {
-            lines,
-            blanks: 0,
-            closed: true,
-        };
-        assert!(rt; refusal(rt.alloc(), &case).expect(&rt, "memory") == expected);
+        assert!(rt; refused(rt.alloc(), lines).expect(&rt, "memory") == expected);
     }
 }
 
@@ -140,6 +139,24 @@ fn a_proof_has_64_cites(rt: HostRuntime) {
     assert!(rt; with_cites(rt.alloc(), 65).expect(&rt, "memory") == bad(66));
 }
 
+fn refused(alloc: Global, lines: &[Option<&str>]) -> Result<Option<BodyRefusal>, AllocError> {
+    let case = Case {
+        lines,
+        blanks: 0,
+        closed: true,
+    };
+    refusal(alloc, &case)
+}
+
+fn has_size(body: &Body) -> bool
+    ensures { IsTrue result → HasSize (body_of body.now) }
+{
+    match body {
+        Body::Proof(_) => true,
+        Body::Table(table) => table.size >= 1,
+    }
+}
+
 fn written(alloc: Global, lines: &[Option<&str>], text: &str) -> Result<bool, AllocError> {
     let case = Case {
         lines,
@@ -147,9 +164,54 @@ fn written(alloc: Global, lines: &[Option<&str>], text: &str) -> Result<bool, Al
         closed: true,
     };
     match read(alloc, &case)? {
-        Ok(body) => Ok(body_text(alloc, &body)?.as_slice() == text.as_bytes()),
-        Err(_) => Ok(false),
+        Ok(body) if has_size(&body) => {
+            Ok(body_text(alloc, &body)?.as_slice() == text.as_bytes())
+        }
+        _ => Ok(false),
     }
+}
+
+#[test]
+fn a_table_is_written_in_one_form(rt: HostRuntime) {
+    let lines = [
+        Some("table 02"),
+        Some(" row 0 0"),
+        Some("# the second row"),
+        Some("row 1\t1"),
+        Some("holds 4 01"),
+        Some("holds 4"),
+        Some("fails 43"),
+    ];
+    let text = "table 2\nrow 0 0\nrow 1 1\nholds 4 1 4\nfails 43\n";
+    assert!(rt; written(rt.alloc(), &lines, text).expect(&rt, "memory"));
+}
+
+#[test]
+fn lines_of_a_table_stand_in_their_order(rt: HostRuntime) {
+    let table = Some("table 2");
+    let first = Some("row 0 0");
+    let second = Some("row 1 1");
+    let holds = Some("holds 4");
+    let fails = Some("fails 43");
+    let cases: [(&[Option<&str>], Option<BodyRefusal>); 8] = [
+        (&[table, first, second, holds, fails], None),
+        (&[Some("table 0")], bad(1)),
+        (&[Some("table 256")], bad(1)),
+        (&[table, Some("row 0")], bad(2)),
+        (&[table, first, holds], bad(3)),
+        (&[table, first, second, fails], bad(4)),
+        (&[table, first, second, holds, fails, holds], bad(6)),
+        (&[table, first, second, Some("holds"), fails], bad(4)),
+    ];
+    for (lines, expected) in cases {
+        assert!(rt; refused(rt.alloc(), lines).expect(&rt, "memory") == expected);
+    }
+    let cited = &[table, first, second, Some("holds 4 4695"), Some("fails 0")];
+    let unknown = Some(BodyRefusal::UnknownLaw {
+        line: 4,
+        number: 4695,
+    });
+    assert!(rt; refused(rt.alloc(), cited).expect(&rt, "memory") == unknown);
 }
 
 #[test]
@@ -298,6 +360,6 @@ fn two_lemmas_are_read_with_their_steps(rt: HostRuntime) {
                 assert!(rt; stands(rt.alloc(), &proof, step).expect(&rt, "memory"));
             }
         }
-        Err(_) => assert!(rt; false),
+        _ => assert!(rt; false),
     }
 }

@@ -2,12 +2,17 @@
 ghost use Rattle.std.specs.Prelude.{◌≡◌, IfOk, OnErr};
 ghost use Rattle.std.specs.Option.{option_map};
 ghost use Rattle.etp_items.specs.Bodies.{body_of};
-ghost use Rattle.etp_items.specs.Said.{line_of};
+ghost use Rattle.etp_items.specs.BodyLines.{proof_line, table_line};
+ghost use Rattle.etp_items.specs.Said.{line_of, proof_line_of, table_line_of};
 ghost use Rattle.etp_items.specs.Work.{Takes, IsWhole};
 
 use crate::body::Body;
+use crate::lines::Line;
+use crate::model::ModelWork;
 use crate::proof::lines::ProofLine;
 use crate::proof::work::ProofWork;
+use crate::table::lines::TableLine;
+use crate::table::work::TableWork;
 use etp_term::NoMemory;
 use std::alloc::Global;
 
@@ -17,28 +22,60 @@ pub(crate) enum Work {
     /// No line has been read but blank ones.
     Opening,
     Proof(ProofWork),
+    Model(ModelWork),
 }
 
 impl Work {
     /// Takes what the next line says, where that may stand.
-    pub(crate) fn take(&mut self, alloc: Global, said: ProofLine) -> Result<bool, NoMemory>
+    pub(crate) fn take(&mut self, alloc: Global, said: Line) -> Result<bool, NoMemory>
         ensures ok { IfOk result (Takes self.old (line_of said) self.new) }
         ensures err { OnErr result (self.new ≡ self.old) }
     {
         match self {
             Work::Opening => Ok(self.open(alloc, said)),
-            Work::Proof(work) => work.take(alloc, said),
+            Work::Proof(work) => match said {
+                Line::Proof(said) => work.take(alloc, said),
+                Line::Table(_) | Line::Claim(_) => Ok(false),
+            },
+            Work::Model(work) => work.take(alloc, said),
         }
     }
 
     /// Takes the first line.
-    fn open(&mut self, alloc: Global, said: ProofLine) -> bool
+    fn open(&mut self, alloc: Global, said: Line) -> bool
         requires { self.old ≡ Work.Opening }
         ensures { Takes self.old (line_of said) self.new result }
+    {
+        match said {
+            Line::Proof(said) => self.open_proof(alloc, said),
+            Line::Table(said) => self.open_table(alloc, said),
+            Line::Claim(_) => false,
+        }
+    }
+
+    fn open_proof(&mut self, alloc: Global, said: ProofLine) -> bool
+        requires { self.old ≡ Work.Opening }
+        ensures { Takes self.old (proof_line (proof_line_of said)) self.new result }
     {
         match ProofWork::open(alloc, said) {
             Some(work) => {
                 *self = Work::Proof(work);
+                true
+            }
+            None => false,
+        }
+    }
+
+    fn open_table(&mut self, alloc: Global, said: TableLine) -> bool
+        requires { self.old ≡ Work.Opening }
+        ensures { Takes self.old (table_line (table_line_of said)) self.new result }
+    {
+        match TableWork::open(alloc, said) {
+            Some(magma) => {
+                *self = Work::Model(ModelWork {
+                    magma,
+                    claims: None,
+                });
                 true
             }
             None => false,
@@ -52,6 +89,7 @@ impl Work {
         match self {
             Work::Opening => None,
             Work::Proof(work) => work.into_body(),
+            Work::Model(work) => work.into_body(),
         }
     }
 }

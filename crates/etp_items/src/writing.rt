@@ -1,10 +1,13 @@
 // The text of a body.
-ghost use Rattle.std.specs.Prelude.{◌≡◌, IfOk};
+ghost use Rattle.std.specs.Prelude.{◌≡◌, ◌≤◌, IfOk};
 ghost use Rattle.etp_items.specs.Bodies.{body_of};
-ghost use Rattle.etp_items.specs.Written.{written_body};
+ghost use Rattle.etp_items.specs.Bodies.{model, table, claims_of};
+ghost use Rattle.etp_items.specs.Written.{written_body, HasSize};
 
-use crate::body::Body;
+use crate::body::{Body, TableBody};
+use crate::claims::writing::append_claims;
 use crate::proof::writing::proof_text;
+use crate::table::writing::append_table;
 use etp_term::NoMemory;
 use etp_text::Text;
 use std::alloc::Global;
@@ -12,9 +15,22 @@ use std::alloc::Global;
 /// The lines of a body as they are written: words with one space between two, numbers without
 /// leading zeros, no blank lines.
 pub fn body_text(alloc: Global, body: &Body) -> Result<Text, NoMemory>
+    requires { HasSize (body_of body.now) }
     ensures { IfOk result (λ text. text ≡ written_body (body_of body.now)) }
 {
     match body {
         Body::Proof(proof) => proof_text(alloc, proof),
+        Body::Table(table) => table_text(alloc, table),
     }
+}
+
+fn table_text(alloc: Global, body: &TableBody) -> Result<Text, NoMemory>
+    requires { 1 ≤ body.now.size }
+    ensures { IfOk result (λ text. text
+        ≡ written_body (model (table body.now.size body.now.entries) (claims_of body.now.claims))) }
+{
+    let mut text = Text::empty(alloc);
+    append_table(&mut text, body.size, body.entries.as_slice())?;
+    append_claims(&mut text, &body.claims)?;
+    Ok(text)
 }

@@ -1,0 +1,267 @@
+-- A magma and its claims with one line more.
+use Rattle.std.proofs.Common.{◌≡◌, ℕ, ◌+◌, ◌<◌, ◌≤◌, ◌&&◌, not, arith, Bool, true, false, List, [], ◌∷◌, ◌++◌, length, map, All, nat_eq, nat_le, nat_lt, refl, sym, ap, subst, ◌∙◌, Option, Some, None, IfOk, Result, Ok, Err, append_assoc, append-nil, length-append, eqb-true}
+use Rattle.std.specs.Option.{option_map, is_some}
+use Rattle.std.specs.List.{concat}
+use Rattle.std.proofs.lemmas.Bool.{le-leb, lt-ltb, eq-eqb}
+use Rattle.std.proofs.lemmas.List.Folds.{concat-append}
+use Rattle.std.proofs.lemmas.List.Elements.{All-push}
+use Rattle.etp_items.specs.ProofLines.{ProofLine}
+use Rattle.etp_items.specs.TableLines.{TableLine, table, row, Rows, opened_rows, after_in_table}
+use Rattle.etp_items.specs.Claims.{ClaimLine, holds, fails, ClaimPlace, holding, failing, first_claim, after_claim}
+use Rattle.etp_items.specs.BodyLines as Lines
+use Rattle.etp_items.specs.BodyLines.{Line, Place, opening, in_head, in_claims, table_line, claim_line, proof_line, after_opening, after, is_told, is_complete}
+use Rattle.etp_items.specs.Bodies.{FileBody, model, claims_of}
+use Rattle.etp_items.specs.Bodies as Bodies
+use Rattle.etp_items.specs.Reading.{SaysBody}
+use Rattle.etp_items.specs.Work.{HasRows, OpensTable, rows_place, TakesRow, claim_at, TakesInTable, is_told_by, claim_place, HasClaims, OpensClaims, TakesInClaims, HasModel, HasCome, GoesOn, Takes, IsWhole}
+use Rattle.etp_items.specs.declared.table.work.TableWork.{TableWork}
+use Rattle.etp_items.specs.declared.claims.work.ClaimsWork.{ClaimsWork}
+use Rattle.etp_items.specs.declared.model.ModelWork.{ModelWork}
+use Rattle.etp_items.specs.declared.work.Work.{Work}
+use Rattle.etp_items.specs.declared.work.Work.TheVariants.{Opening, Model}
+
+map_end : {A B : Type 0} (f : A → B) (xs : List A) (x : A) → map f (xs ++ x ∷ []) ≡ map f xs ++ f x ∷ []
+map_end f [] x = refl
+map_end f (y ∷ ys) x = ap (λ zs. f y ∷ zs) (map_end f ys x)
+
+both : (a b : Bool) → a ≡ true → b ≡ true → (a && b) ≡ true
+both a b h k = rw (h, k) refl
+
+concat_end : (xss : List (List ℕ)) (xs : List ℕ) → concat (xss ++ xs ∷ []) ≡ concat xss ++ xs
+concat_end xss xs = concat-append xss (xs ∷ []) ∙ ap (λ z. concat xss ++ z) (append-nil xs)
+
+-- a row more
+pub row_taken : (old new : TableWork) (said : TableLine) (entries : List ℕ) (rows : List (List ℕ)) → HasRows old rows → said ≡ row entries
+    → old.rows < old.size → length entries ≡ old.size → new.size ≡ old.size → new.rows ≡ old.rows + 1 → new.entries ≡ old.entries ++ entries → TakesRow old new said rows
+row_taken old new said entries rows h e few long size count grown =
+    let n : length (rows ++ entries ∷ []) ≡ length rows + 1 = length-append rows (entries ∷ []) in
+    let c : old.rows ≡ length rows = h.count_is in
+    let lt : nat_lt (length rows) old.size ≡ true = lt-ltb (length rows) old.size (omega arith) in
+    let eq : nat_eq (length entries) old.size ≡ true = eq-eqb (length entries) old.size long in
+    record {
+      entries = entries;
+      said_is = e;
+      size_is = size;
+      stands = ap (after_in_table (rows_place old rows)) e ∙ rw (lt, eq, n, size) refl;
+      now = record {
+        some = rw size h.some;
+        count_is = omega (arith, count);
+        few = omega (arith, size);
+        each = rw size (All-push (λ r. length r ≡ old.size) rows entries h.each long);
+        entries_are = grown ∙ ap (λ z. z ++ entries) h.entries_are ∙ sym (concat_end rows entries);
+      };
+    }
+
+-- claims open
+pub claims_opened : (w : ClaimsWork) (said : ClaimLine) (numbers : List ℕ) → said ≡ holds numbers → w.failing ≡ false → w.claims.holds ≡ numbers → w.claims.fails ≡ []
+    → OpensClaims said (Some w)
+claims_opened w said numbers e none f g = (
+  ap first_claim e ∙ rw none refl,
+  record {
+    says = record {
+      held = numbers ∷ [];
+      failed = [];
+      whole = ap (λ z. z ∷ []) e;
+      holds_are = f ∙ sym (append-nil numbers);
+      fails_are = g;
+    };
+    stage = λ s. refl;
+  },
+)
+
+-- a line of laws that are to hold
+pub holds_taken : (old new : ClaimsWork) (said : ClaimLine) (numbers : List ℕ) → said ≡ holds numbers → old.failing ≡ false → new.failing ≡ old.failing
+    → new.claims.holds ≡ old.claims.holds ++ numbers → new.claims.fails ≡ old.claims.fails → TakesInClaims old said new true
+holds_taken old new said numbers e none kept f g = (
+  ap (after_claim (claim_place old)) e ∙ rw (kept, none) refl,
+  λ lines h.
+      let empty : h.says.failed ≡ [] = h.stage none in
+      let held : lines ≡ map holds h.says.held = h.says.whole ∙ ap (λ z. map holds h.says.held ++ map fails z) empty ∙ append-nil (map holds h.says.held) in
+      record {
+        says = record {
+          held = h.says.held ++ numbers ∷ [];
+          failed = [];
+          whole = ap (λ z. lines ++ z ∷ []) e ∙ ap (λ z. z ++ holds numbers ∷ []) held ∙ sym (map_end holds h.says.held numbers) ∙ sym (append-nil (map holds (h.says.held ++ numbers ∷ [])));
+          holds_are = f ∙ ap (λ z. z ++ numbers) h.says.holds_are ∙ sym (concat_end h.says.held numbers);
+          fails_are = g ∙ h.says.fails_are ∙ ap concat empty;
+        };
+        stage = λ s. refl;
+      },
+)
+
+true_false : true ≡ false → ⊥
+true_false e = cc
+
+after_fails : (f : Bool) (numbers : List ℕ) → after_claim (claim_at f) (fails numbers) ≡ Some failing
+after_fails true numbers = refl
+after_fails false numbers = refl
+
+-- a line of laws that are to fail
+pub fails_taken : (old new : ClaimsWork) (said : ClaimLine) (numbers : List ℕ) → said ≡ fails numbers → new.failing ≡ true
+    → new.claims.holds ≡ old.claims.holds → new.claims.fails ≡ old.claims.fails ++ numbers → TakesInClaims old said new true
+fails_taken old new said numbers e set f g = (
+  ap (after_claim (claim_place old)) e ∙ after_fails old.failing numbers ∙ rw set refl,
+  λ lines h. record {
+    says = record {
+      held = h.says.held;
+      failed = h.says.failed ++ numbers ∷ [];
+      whole = ap (λ z. lines ++ z ∷ []) e ∙ ap (λ z. z ++ fails numbers ∷ []) h.says.whole ∙ append_assoc (map holds h.says.held) (map fails h.says.failed) (fails numbers ∷ [])
+          ∙ ap (λ z. map holds h.says.held ++ z) (sym (map_end fails h.says.failed numbers));
+      holds_are = f ∙ h.says.holds_are;
+      fails_are = g ∙ ap (λ z. z ++ numbers) h.says.fails_are ∙ sym (concat_end h.says.failed numbers);
+    };
+    stage = λ s. absurd (true_false (sym set ∙ s));
+  },
+)
+
+-- the work of a magma goes on as its table does
+pub table_takes : (old new : TableWork) (said : TableLine) (taken : Bool) → TakesInTable old said new taken
+    → Takes (Model (record { magma = old; claims = None })) (table_line said) (Model (record { magma = new; claims = None })) taken
+table_takes old new said true t = λ place saids (rows, h, p, s).
+    let on = t rows h in
+    record {
+      next = in_head (Lines.rows (rows_place new (rows ++ on.entries ∷ [])));
+      stands = ap (λ (z : Place). after z (table_line said)) p ∙ ap (option_map (λ r. in_head (Lines.rows r))) on.stands;
+      come = (
+        rows ++ on.entries ∷ [],
+        on.now,
+        refl,
+        ap (λ z. z ++ table_line said ∷ []) s
+            ∙ ap (λ (z : TableLine). map table_line (table old.size ∷ map row rows) ++ table_line z ∷ []) on.said_is
+            ∙ sym (map_end table_line (table old.size ∷ map row rows) (row on.entries))
+            ∙ ap (λ (z : List TableLine). map table_line (table old.size ∷ z)) (sym (map_end row rows on.entries))
+            ∙ ap (λ n. map table_line (table n ∷ map row (rows ++ on.entries ∷ []))) (sym on.size_is),
+      );
+    }
+table_takes old new said false t = λ place saids (rows, h, p, s). ap (λ (z : Place). after z (table_line said)) p ∙ ap (option_map (λ r. in_head (Lines.rows r))) (t rows h)
+
+pub table_takes_ok : {E : Type 0} (old new : TableWork) (said : TableLine) (r : Result Bool E) → IfOk r (TakesInTable old said new)
+    → IfOk r (Takes (Model (record { magma = old; claims = None })) (table_line said) (Model (record { magma = new; claims = None })))
+table_takes_ok old new said (Ok taken) t = table_takes old new said taken t
+table_takes_ok old new said (Err e) t = tt
+
+none_is : {A : Type 0} (o : Option A) → is_some o ≡ false → o ≡ None
+none_is None e = refl
+none_is (Some a) e = absurd (true_false e)
+
+pub table_takes_at : {E : Type 0} (w : ModelWork) (new : TableWork) (said : TableLine) (r : Result Bool E) → is_some w.claims ≡ false → IfOk r (TakesInTable w.magma said new)
+    → IfOk r (Takes (Model w) (table_line said) (Model (record { magma = new; claims = w.claims })))
+table_takes_at w new said r none t =
+    subst (λ o. IfOk r (Takes (Model (record { magma = w.magma; claims = o })) (table_line said) (Model (record { magma = new; claims = o }))))
+    (sym (none_is w.claims none)) (table_takes_ok w.magma new said r t)
+
+pub not_false : (b : Bool) → not b ≡ false → b ≡ true
+not_false true e = refl
+not_false false e = absurd (true_false e)
+
+-- behind the claims no line of a table stands
+pub table_shut : (w : ModelWork) (c : ClaimsWork) (said : TableLine) → w.claims ≡ Some c → Takes (Model w) (table_line said) (Model w) false
+table_shut w c said e place saids h =
+    let k : HasModel w.magma (Some c) place saids = subst (λ o. HasModel w.magma o place saids) e h in
+    ap (λ (z : Place). after z (table_line said)) k.5
+
+-- and as its claims do
+pub claims_take : (m : TableWork) (old new : ClaimsWork) (said : ClaimLine) (taken : Bool) → TakesInClaims old said new taken
+    → Takes (Model (record { magma = m; claims = Some old })) (claim_line said) (Model (record { magma = m; claims = Some new })) taken
+claims_take m old new said true t = λ place saids (rows, lines, h, k, n, p, s). record {
+  next = in_claims (claim_place new);
+  stands = ap (λ (z : Place). after z (claim_line said)) p ∙ ap (option_map in_claims) t.0;
+  come = (
+    rows,
+    lines ++ said ∷ [],
+    h,
+    t.1 lines k,
+    n,
+    refl,
+    ap (λ z. z ++ claim_line said ∷ []) s
+        ∙ append_assoc (map table_line (table m.size ∷ map row rows)) (map claim_line lines) (claim_line said ∷ [])
+        ∙ ap (λ z. map table_line (table m.size ∷ map row rows) ++ z) (sym (map_end claim_line lines said)),
+  );
+}
+claims_take m old new said false t = λ place saids (rows, lines, h, k, n, p, s). ap (λ (z : Place). after z (claim_line said)) p ∙ ap (option_map in_claims) t
+
+pub claims_take_ok : {E : Type 0} (m : TableWork) (old new : ClaimsWork) (said : ClaimLine) (r : Result Bool E) → IfOk r (TakesInClaims old said new)
+    → IfOk r (Takes (Model (record { magma = m; claims = Some old })) (claim_line said) (Model (record { magma = m; claims = Some new })))
+claims_take_ok m old new said (Ok taken) t = claims_take m old new said taken t
+claims_take_ok m old new said (Err e) t = tt
+
+-- whether all rows stand
+told_as : (m : TableWork) (rows : List (List ℕ)) → HasRows m rows → is_told (Lines.rows (rows_place m rows)) ≡ is_told_by m
+told_as m rows h = ap (λ n. nat_eq n m.size) (sym h.count_is)
+
+pub claims_open : (w : ModelWork) (said : ClaimLine) (o : Option ClaimsWork) → w.claims ≡ None → is_told_by w.magma ≡ true → OpensClaims said o
+    → Takes (Model w) (claim_line said) (Model (record { magma = w.magma; claims = o })) (is_some o)
+claims_open w said (Some c) e told t = λ place saids h.
+    let k : HasModel w.magma None place saids = subst (λ o. HasModel w.magma o place saids) e h in
+    let all : is_told (Lines.rows (rows_place w.magma k.0)) ≡ true = told_as w.magma k.0 k.1 ∙ told in
+    record {
+      next = in_claims (claim_place c);
+      stands = ap (λ (z : Place). after z (claim_line said)) k.2 ∙ rw all (ap (option_map in_claims) t.0);
+      come = (k.0, said ∷ [], k.1, t.1, eqb-true (length k.0) w.magma.size all, refl, ap (λ z. z ++ claim_line said ∷ []) k.3);
+    }
+claims_open w said None e told t = λ place saids h.
+    let k : HasModel w.magma None place saids = subst (λ o. HasModel w.magma o place saids) e h in
+    let all : is_told (Lines.rows (rows_place w.magma k.0)) ≡ true = told_as w.magma k.0 k.1 ∙ told in
+    ap (λ (z : Place). after z (claim_line said)) k.2 ∙ rw all (ap (option_map in_claims) t)
+
+pub claims_shut : (w : ModelWork) (said : ClaimLine) → w.claims ≡ None → is_told_by w.magma ≡ false → Takes (Model w) (claim_line said) (Model w) false
+claims_shut w said e told = λ place saids h.
+    let k : HasModel w.magma None place saids = subst (λ o. HasModel w.magma o place saids) e h in
+    let all : is_told (Lines.rows (rows_place w.magma k.0)) ≡ false = told_as w.magma k.0 k.1 ∙ told in
+    ap (λ (z : Place). after z (claim_line said)) k.2 ∙ rw all refl
+
+-- no line of a proof stands in a magma
+pub proof_shut : (w : ModelWork) (o : Option ClaimsWork) (said : ProofLine) → w.claims ≡ o → Takes (Model w) (proof_line said) (Model w) false
+proof_shut w None said e = λ place saids h.
+    let k : HasModel w.magma None place saids = subst (λ o. HasModel w.magma o place saids) e h in
+    ap (λ (z : Place). after z (proof_line said)) k.2
+proof_shut w (Some c) said e = λ place saids h.
+    let k : HasModel w.magma (Some c) place saids = subst (λ o. HasModel w.magma o place saids) e h in
+    ap (λ (z : Place). after z (proof_line said)) k.5
+
+-- a table opens
+pub table_opens : (old : Work) (said : TableLine) (w : TableWork) → old ≡ Opening → OpensTable said (Some w) → Takes old (table_line said) (Model (record { magma = w; claims = None })) true
+table_opens old said w o t = λ place saids h.
+    let k : HasCome Opening place saids = subst (λ (z : Work). HasCome z place saids) o h in
+    let low : nat_le 1 w.size ≡ true = le-leb 1 w.size t.2.some in
+    let high : nat_le w.size 255 ≡ true = le-leb w.size 255 t.1 in
+    record {
+      next = in_head (Lines.rows (rows_place w []));
+      stands = ap (λ (z : Place). after z (table_line said)) k.0 ∙ ap (λ (z : TableLine). after_opening (table_line z)) t.0 ∙ rw (low, high) refl;
+      come = ([], t.2, refl, ap (λ z. z ++ table_line said ∷ []) k.1 ∙ ap (λ (z : TableLine). table_line z ∷ []) t.0);
+    }
+
+pub table_stays_shut : (old : Work) (said : TableLine) → old ≡ Opening → OpensTable said None → Takes old (table_line said) old false
+table_stays_shut old said o t = λ place saids h.
+    let k : HasCome Opening place saids = subst (λ (z : Work). HasCome z place saids) o h in
+    ap (λ (z : Place). after z (table_line said)) k.0 ∙ t
+
+pub claim_stays_shut : (old : Work) (said : ClaimLine) → old ≡ Opening → Takes old (claim_line said) old false
+claim_stays_shut old said o = λ place saids h.
+    let k : HasCome Opening place saids = subst (λ (z : Work). HasCome z place saids) o h in
+    ap (λ (z : Place). after z (claim_line said)) k.0
+
+-- at the end
+pub model_whole : (w : ModelWork) (c : ClaimsWork) → w.claims ≡ Some c → c.failing ≡ true
+    → IsWhole (Model w) (Some (model (Bodies.table w.magma.size w.magma.entries) (claims_of c.claims)))
+model_whole w c e set = λ place saids h.
+    let k : HasModel w.magma (Some c) place saids = subst (λ o. HasModel w.magma o place saids) e h in (
+      ap is_complete k.5 ∙ rw set refl,
+      record {
+        head = map table_line (table w.magma.size ∷ map row k.0);
+        behind = k.1;
+        whole = k.6;
+        says_model = (table w.magma.size ∷ map row k.0, refl, record { rows = k.0; whole = refl; entries_are = k.2.entries_are });
+        says_claims = k.3.says;
+      },
+    )
+
+pub model_unclaimed : (w : ModelWork) → w.claims ≡ None → IsWhole (Model w) None
+model_unclaimed w e = λ place saids h.
+    let k : HasModel w.magma None place saids = subst (λ o. HasModel w.magma o place saids) e h in
+    ap is_complete k.2
+
+pub model_unfailing : (w : ModelWork) (c : ClaimsWork) → w.claims ≡ Some c → c.failing ≡ false → IsWhole (Model w) None
+model_unfailing w c e set = λ place saids h.
+    let k : HasModel w.magma (Some c) place saids = subst (λ o. HasModel w.magma o place saids) e h in
+    ap is_complete k.5 ∙ rw set refl

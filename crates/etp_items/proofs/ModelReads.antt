@@ -1,0 +1,269 @@
+-- The written lines of a magma and its claims are read back.
+use Rattle.std.proofs.Common.{◌≡◌, ℕ, zero, suc, ◌+◌, ◌*◌, ◌<◌, ◌≤◌, ◌^◌, ◌&&◌, arith, Bool, true, false, nat_le, nat_lt, nat_eq, List, [], ◌∷◌, ◌++◌, length, take, drop, map, All, codes, decimal, refl, sym, ap, subst, ◌∙◌, inl, inr, Option, Some, None, append_assoc, append-nil, length-append, suc-mul}
+use Rattle.std.specs.Option.{option_map}
+use Rattle.std.specs.List.{concat, list_all, AllByRecursion}
+use Rattle.std.proofs.lemmas.Bool.{le-leb, lt-ltb, eq-eqb}
+use Rattle.std.proofs.lemmas.List.{length-take, length-drop, take_all}
+use Rattle.std.proofs.lemmas.List.Elements.{recursion_from_All, All-take, All-drop}
+use Rattle.std.proofs.lemmas.Fmt.{length-decimal-le}
+use Rattle.etp_io.specs.Texts.{LineText, whole, lines_of}
+use Rattle.etp_words.specs.Words.{words_of}
+use Rattle.etp_words.specs.Numbers.{number_of}
+use Rattle.etp_reading.specs.Reading.{Reads, AreWhole}
+use Rattle.etp_items.specs.TableLines.{TableLine, table, row, Rows, after_in_table}
+use Rattle.etp_items.specs.Claims.{ClaimLine, holds, fails, holding, failing, Claims, numbers_said, SaysNumbers}
+use Rattle.etp_items.specs.BodyLines as Lines
+use Rattle.etp_items.specs.BodyLines.{Line, of_proofs, of_tables, of_claims, Place, opening, in_head, in_claims, table_line, claim_line, Says, after, after_opening, bodies}
+use Rattle.etp_items.specs.Bodies as Bodies
+use Rattle.etp_items.specs.Bodies.{Model, model}
+use Rattle.etp_items.specs.Reading.{SaysClaimed, IsBody}
+use Rattle.etp_items.specs.Written.{written_by, written_proof_line, spaced_behind, written_numbers, written_table_line, written_claim_line, pieces, cut, model_text, claim_lines, written_body, AreNumbers, IsWritableModel, AreWritableClaims}
+use Rattle.etp_items.proofs.ReadBack.{both, together, joined, is_text, graph_text, IsWord, words_front, words_last, decimal_number, decimal_word}
+use Rattle.etp_items.proofs.NumberLemmas.{cut_joined, written_join, written_map}
+use Rattle.etp_items.proofs.TextLines.{as_given, given_length, IsTextLine, lines_back}
+
+-- numbers below 2^32
+abbrev pub Small : ℕ → Type 0
+Small n = n < 2 ^ 32
+
+words_spaced : (w : List ℕ) → IsWord w → (ns : List ℕ) → AllByRecursion Small ns → words_of (w ++ spaced_behind ns) ≡ w ∷ map decimal ns
+words_spaced w h [] small = ap words_of (append-nil w) ∙ words_last w h
+words_spaced w h (n ∷ ns) small =
+    words_front w (decimal n ++ spaced_behind ns) h ∙ ap (λ z. w ∷ z) (words_spaced (decimal n) (decimal_word n small.0) ns small.1)
+
+decimals_said : (ns : List ℕ) → AllByRecursion Small ns → numbers_said (map decimal ns) ≡ Some ns
+decimals_said [] small = refl
+decimals_said (n ∷ ns) small = rw (decimal_number n small.0, decimals_said ns small.1) refl
+
+pub numbers_back : (word ns : List ℕ) → IsWord word → AllByRecursion Small ns → SaysNumbers (written_numbers word ns) word ns
+numbers_back word ns h small = record { more = map decimal ns; words = words_spaced word h ns small; said = decimals_said ns small }
+
+spaced_text : (ns : List ℕ) → AllByRecursion Small ns → list_all is_text (spaced_behind ns) ≡ true
+spaced_text [] small = refl
+spaced_text (n ∷ ns) small = joined is_text (decimal n) (spaced_behind ns) (graph_text (decimal n) (decimal_word n small.0).graph) (spaced_text ns small.1)
+
+spaced_length : (ns : List ℕ) → AllByRecursion Small ns → length (spaced_behind ns) ≤ length ns * 11
+spaced_length [] small = omega arith
+spaced_length (n ∷ ns) small =
+    let one : length (decimal n) ≤ 10 = length-decimal-le 10 n (omega arith) (omega (arith, small.0)) (omega (arith, small.0)) in
+    let on = spaced_length ns small.1 in
+    let many : length (n ∷ ns) * 11 ≡ length ns * 11 + 11 = suc-mul (length ns) 11 in
+    omega (arith, length-append (decimal n) (spaced_behind ns))
+
+-- a line of few numbers is short plain text
+numbers_text : (word ns : List ℕ) → IsWord word → length word ≤ 5 → length ns ≤ 255 → AllByRecursion Small ns
+    → (list_all is_text (written_numbers word ns) ≡ true) × (length (written_numbers word ns) ≤ 4096)
+numbers_text word ns h short few small = (
+  joined is_text word (spaced_behind ns) (graph_text word h.graph) (spaced_text ns small),
+  omega (arith, length-append word (spaced_behind ns), spaced_length ns small),
+)
+
+table_word : IsWord (codes "table")
+table_word = record { some = omega arith; graph = refl }
+
+row_word : IsWord (codes "row")
+row_word = record { some = omega arith; graph = refl }
+
+holds_word : IsWord (codes "holds")
+holds_word = record { some = omega arith; graph = refl }
+
+fails_word : IsWord (codes "fails")
+fails_word = record { some = omega arith; graph = refl }
+
+-- each line by its words
+abbrev pub written_any : Line → List ℕ
+written_any (of_proofs, said) = written_proof_line said
+written_any (of_tables, said) = written_table_line said
+written_any (of_claims, said) = written_claim_line said
+
+-- a line of numbers that are small and not too many
+abbrev pub IsFewLine : Line → Type 0
+IsFewLine (of_proofs, said) = ⊥
+IsFewLine (of_tables, table size) = Small size
+IsFewLine (of_tables, row entries) = (length entries ≤ 255) × AllByRecursion Small entries
+IsFewLine (of_claims, holds numbers) = (0 < length numbers) × (length numbers ≤ 255) × AllByRecursion Small numbers
+IsFewLine (of_claims, fails numbers) = (0 < length numbers) × (length numbers ≤ 255) × AllByRecursion Small numbers
+
+few_text : (l : Line) → IsFewLine l → IsTextLine written_any l
+few_text (of_proofs, said) h = absurd h
+few_text (of_tables, table size) h = numbers_text (codes "table") (size ∷ []) table_word (omega arith) (omega arith) (h, tt)
+few_text (of_tables, row entries) h = numbers_text (codes "row") entries row_word (omega arith) h.0 h.1
+few_text (of_claims, holds numbers) h = numbers_text (codes "holds") numbers holds_word (omega arith) h.1 h.2
+few_text (of_claims, fails numbers) h = numbers_text (codes "fails") numbers fails_word (omega arith) h.1 h.2
+
+few_texts : (ls : List Line) → AllByRecursion IsFewLine ls → AllByRecursion (IsTextLine written_any) ls
+few_texts [] h = tt
+few_texts (l ∷ ls) h = (few_text l h.0, few_texts ls h.1)
+
+not_empty : (ns : List ℕ) → 0 < length ns → ns ≡ [] → ⊥
+not_empty [] h e = omega (arith, h)
+not_empty (n ∷ ns) h e = cc
+
+few_back : (l : Line) → IsFewLine l → Says (written_any l) l
+few_back (of_proofs, said) h = absurd h
+few_back (of_tables, table size) h =
+    let s = numbers_back (codes "table") (size ∷ []) table_word (h, tt) in
+    record { word = decimal size; words = words_spaced (codes "table") table_word (size ∷ []) (h, tt); said = decimal_number size h }
+few_back (of_tables, row entries) h = numbers_back (codes "row") entries row_word h.1
+few_back (of_claims, holds numbers) h = record { says = numbers_back (codes "holds") numbers holds_word h.2; some = not_empty numbers h.0 }
+few_back (of_claims, fails numbers) h = record { says = numbers_back (codes "fails") numbers fails_word h.2; some = not_empty numbers h.0 }
+
+-- written lines are read, one after another
+reads_one : (p next q : Place) (l : Line) (ls : List Line) → IsFewLine l → after p l ≡ Some next → Reads bodies next (as_given written_any ls) ls q → Reads bodies p (as_given written_any (l ∷ ls)) (l ∷ ls) q
+reads_one p next q l ls h a r = inr (l, next, ls, few_back l h, a, r, refl)
+
+row_stands : (size count : ℕ) (entries : List ℕ) → count < size → length entries ≡ size
+    → after (in_head (Lines.rows (record { size = size; count = count }))) (table_line (row entries)) ≡ Some (in_head (Lines.rows (record { size = size; count = count + 1 })))
+row_stands size count entries few long =
+    let lt : nat_lt count size ≡ true = lt-ltb count size few in
+    let eq : nat_eq (length entries) size ≡ true = eq-eqb (length entries) size long in
+    rw (lt, eq) refl
+
+read_rows : (size count : ℕ) (rows : List (List ℕ)) (rest : List Line) (q : Place) → count + length rows ≤ size → AllByRecursion (λ r. length r ≡ size) rows
+    → AllByRecursion IsFewLine (map table_line (map row rows) ++ rest)
+    → Reads bodies (in_head (Lines.rows (record { size = size; count = count + length rows }))) (as_given written_any rest) rest q
+    → Reads bodies (in_head (Lines.rows (record { size = size; count = count }))) (as_given written_any (map table_line (map row rows) ++ rest)) (map table_line (map row rows) ++ rest) q
+read_rows size count [] rest q few long small h = subst (λ n. Reads bodies (in_head (Lines.rows (record { size = size; count = n }))) (as_given written_any rest) rest q) (let e : count + 0 ≡ count = omega arith in e) h
+read_rows size count (r ∷ rows) rest q few long small h =
+    reads_one (in_head (Lines.rows (record { size = size; count = count }))) (in_head (Lines.rows (record { size = size; count = count + 1 }))) q (table_line (row r)) (map table_line (map row rows) ++ rest) small.0
+    (row_stands size count r (omega (arith, few)) long.0)
+    (read_rows size (count + 1) rows rest q (omega (arith, few)) long.1 small.1
+    (subst (λ n. Reads bodies (in_head (Lines.rows (record { size = size; count = n }))) (as_given written_any rest) rest q) (let e : count + length (r ∷ rows) ≡ (count + 1) + length rows = omega arith in e) h))
+
+read_failed : (fs : List (List ℕ)) → AllByRecursion IsFewLine (map claim_line (map fails fs)) → Reads bodies (in_claims failing) (as_given written_any (map claim_line (map fails fs))) (map claim_line (map fails fs)) (in_claims failing)
+read_failed [] small = (refl, refl)
+read_failed (f ∷ fs) small = reads_one (in_claims failing) (in_claims failing) (in_claims failing) (claim_line (fails f)) (map claim_line (map fails fs)) small.0 refl (read_failed fs small.1)
+
+read_held : (hs : List (List ℕ)) (f : List ℕ) (fs : List (List ℕ)) → AllByRecursion IsFewLine (map claim_line (map holds hs ++ map fails (f ∷ fs)))
+    → Reads bodies (in_claims holding) (as_given written_any (map claim_line (map holds hs ++ map fails (f ∷ fs)))) (map claim_line (map holds hs ++ map fails (f ∷ fs))) (in_claims failing)
+read_held [] f fs small = reads_one (in_claims holding) (in_claims failing) (in_claims failing) (claim_line (fails f)) (map claim_line (map fails fs)) small.0 refl (read_failed fs small.1)
+read_held (k ∷ hs) f fs small =
+    reads_one (in_claims holding) (in_claims holding) (in_claims failing) (claim_line (holds k)) (map claim_line (map holds hs ++ map fails (f ∷ fs))) small.0 refl (read_held hs f fs small.1)
+
+claim_stands : (size : ℕ) (k : List ℕ) → after (in_head (Lines.rows (record { size = size; count = size }))) (claim_line (holds k)) ≡ Some (in_claims holding)
+claim_stands size k = let eq : nat_eq size size ≡ true = eq-eqb size size refl in rw eq refl
+
+size_stands : (size : ℕ) → 1 ≤ size → size ≤ 255 → after opening (table_line (table size)) ≡ Some (in_head (Lines.rows (record { size = size; count = 0 })))
+size_stands size low high =
+    let l : nat_le 1 size ≡ true = le-leb 1 size low in
+    let g : nat_le size 255 ≡ true = le-leb size 255 high in
+    rw (l, g) refl
+
+-- pieces that a body is cut in
+pieces_few : (n k : ℕ) (xs : List ℕ) → 1 ≤ n → n ≤ 255 → AllByRecursion Small xs → AllByRecursion (λ r. (0 < length r) × (length r ≤ 255) × AllByRecursion Small r) (pieces n k xs)
+pieces_few n k [] some few h = tt
+pieces_few n zero (x ∷ xs) some few h = tt
+pieces_few n (suc k) (x ∷ xs) some few h = (
+  (omega (arith, length-take n (x ∷ xs)), omega (arith, length-take n (x ∷ xs)), take_small n (x ∷ xs) h),
+  pieces_few n k (drop n (x ∷ xs)) some few (drop_small n (x ∷ xs) h),
+)
+  where
+    take_small : (n : ℕ) (xs : List ℕ) → AllByRecursion Small xs → AllByRecursion Small (take n xs)
+    take_small zero [] h = tt
+    take_small zero (x ∷ xs) h = tt
+    take_small (suc n) [] h = tt
+    take_small (suc n) (x ∷ xs) h = (h.0, take_small n xs h.1)
+
+    drop_small : (n : ℕ) (xs : List ℕ) → AllByRecursion Small xs → AllByRecursion Small (drop n xs)
+    drop_small zero [] h = tt
+    drop_small zero (x ∷ xs) h = h
+    drop_small (suc n) [] h = tt
+    drop_small (suc n) (x ∷ xs) h = drop_small n xs h.1
+
+-- so many whole rows
+rows_exact : (n count k : ℕ) (xs : List ℕ) → 1 ≤ n → length xs ≡ count * n → length xs ≤ k → AllByRecursion (λ r. length r ≡ n) (pieces n k xs) × (length (pieces n k xs) ≡ count)
+rows_exact n zero k [] some long few = (tt, refl)
+rows_exact n (suc count) k [] some long few = absurd (let e = suc-mul count n in omega (arith, long))
+rows_exact n count zero (x ∷ xs) some long few = absurd (omega (arith, few))
+rows_exact n zero (suc k) (x ∷ xs) some long few = absurd (omega (arith, long))
+rows_exact n (suc count) (suc k) (x ∷ xs) some long few =
+    let e : suc count * n ≡ count * n + n = suc-mul count n in
+    let on = rows_exact n count k (drop n (x ∷ xs)) some (omega (arith, length-drop n (x ∷ xs), long)) (omega (arith, length-drop n (x ∷ xs), few)) in
+    ((omega (arith, length-take n (x ∷ xs), long), on.0), omega (arith, on.1))
+
+rows_few : (rs : List (List ℕ)) → AllByRecursion (λ r. (0 < length r) × (length r ≤ 255) × AllByRecursion Small r) rs → (rest : List Line) → AllByRecursion IsFewLine rest → AllByRecursion IsFewLine (map table_line (map row rs) ++ rest)
+rows_few [] h rest k = k
+rows_few (r ∷ rs) h rest k = ((h.0.1, h.0.2), rows_few rs h.1 rest k)
+
+failed_few : (fs : List (List ℕ)) → AllByRecursion (λ r. (0 < length r) × (length r ≤ 255) × AllByRecursion Small r) fs → AllByRecursion IsFewLine (map claim_line (map fails fs))
+failed_few [] h = tt
+failed_few (f ∷ fs) h = (h.0, failed_few fs h.1)
+
+held_few : (hs : List (List ℕ)) (rest : List ClaimLine) → AllByRecursion (λ r. (0 < length r) × (length r ≤ 255) × AllByRecursion Small r) hs → AllByRecursion IsFewLine (map claim_line rest)
+    → AllByRecursion IsFewLine (map claim_line (map holds hs ++ rest))
+held_few [] rest h k = k
+held_few (r ∷ hs) rest h k = (h.0, held_few hs rest h.1 k)
+
+-- the lines of a written body
+abbrev pub model_lines : Model → Claims → List Line
+model_lines (Bodies.table size entries) c = table_line (table size) ∷ (map table_line (map row (cut size entries)) ++ map claim_line (claim_lines c))
+
+model_few : (m : Model) (c : Claims) → IsWritableModel m → AreWritableClaims c → AllByRecursion IsFewLine (model_lines m c)
+model_few (Bodies.table size entries) c w k = (
+  omega (arith, w.1),
+  rows_few (cut size entries) (pieces_few size (length entries) entries w.0 w.1 (recursion_from_All Small entries w.3)) (map claim_line (claim_lines c))
+      (held_few (cut 100 c.holds) (map fails (cut 100 c.fails)) (pieces_few 100 (length c.holds) c.holds (omega arith) (omega arith) (recursion_from_All Small c.holds k.holds_small))
+      (failed_few (cut 100 c.fails) (pieces_few 100 (length c.fails) c.fails (omega arith) (omega arith) (recursion_from_All Small c.fails k.fails_small)))),
+)
+
+claims_read_back : (size : ℕ) (hs fs : List (List ℕ)) → 0 < length hs → 0 < length fs → AllByRecursion IsFewLine (map claim_line (map holds hs ++ map fails fs))
+    → Reads bodies (in_head (Lines.rows (record { size = size; count = size }))) (as_given written_any (map claim_line (map holds hs ++ map fails fs))) (map claim_line (map holds hs ++ map fails fs)) (in_claims failing)
+claims_read_back size [] fs some more small = absurd (omega (arith, some))
+claims_read_back size (k ∷ hs) [] some more small = absurd (omega (arith, more))
+claims_read_back size (k ∷ hs) (f ∷ fs) some more small =
+    reads_one (in_head (Lines.rows (record { size = size; count = size }))) (in_claims holding) (in_claims failing) (claim_line (holds k)) (map claim_line (map holds hs ++ map fails (f ∷ fs))) small.0 (claim_stands size k)
+    (read_held hs f fs small.1)
+
+some_pieces : (n : ℕ) (xs : List ℕ) → 0 < length xs → 0 < length (cut n xs)
+some_pieces n [] h = absurd (omega (arith, h))
+some_pieces n (x ∷ xs) h = omega arith
+
+skip_rows : (rs : List (List ℕ)) (rest : List Line) → AllByRecursion IsFewLine (map table_line (map row rs) ++ rest) → AllByRecursion IsFewLine rest
+skip_rows [] rest h = h
+skip_rows (r ∷ rs) rest h = skip_rows rs rest h.1
+
+pub model_read : (m : Model) (c : Claims) → IsWritableModel m → AreWritableClaims c → Reads bodies opening (as_given written_any (model_lines m c)) (model_lines m c) (in_claims failing)
+model_read (Bodies.table size entries) c w k =
+    let few = model_few (Bodies.table size entries) c w k in
+    let rows = cut size entries in
+    let exact = rows_exact size size (length entries) entries w.0 w.2 (omega arith) in
+    let rest = map claim_line (claim_lines c) in
+    let claims = claims_read_back size (cut 100 c.holds) (cut 100 c.fails) (some_pieces 100 c.holds k.some_hold) (some_pieces 100 c.fails k.some_fail) (skip_rows rows rest few.1) in
+    reads_one opening (in_head (Lines.rows (record { size = size; count = 0 }))) (in_claims failing) (table_line (table size)) (map table_line (map row rows) ++ rest) few.0 (size_stands size w.0 w.1)
+    (read_rows size 0 rows rest (in_claims failing) (omega (arith, exact.1)) exact.0 few.1
+    (subst (λ n. Reads bodies (in_head (Lines.rows (record { size = size; count = n }))) (as_given written_any rest) rest (in_claims failing)) (let e : size ≡ 0 + length rows = omega (arith, exact.1) in e) claims))
+
+-- and what the text has
+text_lines : (m : Model) (c : Claims) → written_body (model m c) ≡ written_by written_any (model_lines m c)
+text_lines (Bodies.table size entries) c =
+    let rows = map table_line (map row (cut size entries)) in
+    let rest = map claim_line (claim_lines c) in
+    ap (λ z. (written_table_line (table size) ++ 10 ∷ z) ++ written_by written_claim_line (claim_lines c)) (sym (written_map written_any table_line (map row (cut size entries))))
+    ∙ append_assoc (written_table_line (table size)) (10 ∷ written_by written_any rows) (written_by written_claim_line (claim_lines c))
+    ∙ ap (λ z. written_table_line (table size) ++ 10 ∷ (written_by written_any rows ++ z)) (sym (written_map written_any claim_line (claim_lines c)))
+    ∙ ap (λ z. written_table_line (table size) ++ 10 ∷ z) (sym (written_join written_any rows rest))
+
+pub model_given : (m : Model) (c : Claims) → IsWritableModel m → AreWritableClaims c → lines_of (written_body (model m c)) ≡ as_given written_any (model_lines m c)
+model_given m c w k = ap lines_of (text_lines m c) ∙ lines_back written_any (model_lines m c) (few_texts (model_lines m c) (model_few m c w k))
+
+pub model_says : (m : Model) (c : Claims) → IsWritableModel m → SaysClaimed (model_lines m c) m c
+model_says (Bodies.table size entries) c w = record {
+  head = map table_line (table size ∷ map row (cut size entries));
+  behind = claim_lines c;
+  whole = refl;
+  says_model = (table size ∷ map row (cut size entries), refl, record { rows = cut size entries; whole = refl; entries_are = sym (cut_joined size entries w.0) });
+  says_claims = record {
+    held = cut 100 c.holds;
+    failed = cut 100 c.fails;
+    whole = refl;
+    holds_are = sym (cut_joined 100 c.holds (omega arith));
+    fails_are = sym (cut_joined 100 c.fails (omega arith));
+  };
+}
+
+pub model_whole_lines : (m : Model) (c : Claims) → IsWritableModel m → AreWritableClaims c → AreWhole bodies (lines_of (written_body (model m c))) (model_lines m c)
+model_whole_lines m c w k = record {
+  come = in_claims failing;
+  reads = subst (λ (z : List LineText). Reads bodies opening z (model_lines m c) (in_claims failing)) (sym (model_given m c w k)) (model_read m c w k);
+  complete = refl;
+}

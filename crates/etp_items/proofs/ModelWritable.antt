@@ -1,0 +1,244 @@
+-- A magma and its claims that were read can be written.
+use Rattle.std.proofs.Common.{◌≡◌, ℕ, ◌+◌, ◌*◌, ◌<◌, ◌≤◌, ◌^◌, ◌&&◌, arith, Bool, true, false, cond, nat_le, nat_lt, nat_eq, List, [], ◌∷◌, ◌++◌, length, map, All, refl, sym, ap, subst, ◌∙◌, inl, inr, Option, Some, None, append-nil, length-append, eqb-true, suc-mul}
+use Rattle.std.specs.Option.{option_map}
+use Rattle.std.specs.List.{concat, AllByRecursion}
+use Rattle.std.proofs.lemmas.Bool.{leb-true, ltb-true}
+use Rattle.std.proofs.lemmas.List.Elements.{All-nil, All-append, All-from_recursion}
+use Rattle.etp_io.specs.Texts.{LineText, whole, too_long}
+use Rattle.etp_words.specs.Numbers.{number_of}
+use Rattle.etp_reading.specs.Reading.{Reads}
+use Rattle.etp_items.specs.TableLines.{TableLine, table, row, Rows, opened_rows, after_row, after_in_table, SaysRows}
+use Rattle.etp_items.specs.Claims.{ClaimLine, holds, fails, ClaimPlace, holding, failing, first_claim, after_claim, Claims, SaysClaims, number_then, numbers_said, SaysNumbers}
+use Rattle.etp_items.specs.BodyLines as Lines
+use Rattle.etp_items.specs.BodyLines.{Line, Place, opening, in_head, in_claims, table_line, claim_line, Says, after, after_opening, is_told, is_complete, bodies}
+use Rattle.etp_items.specs.Bodies as Bodies
+use Rattle.etp_items.specs.Bodies.{Model}
+use Rattle.etp_items.specs.Reading.{SaysModel, SaysClaimed}
+use Rattle.etp_items.specs.Written.{AreNumbers, IsWritable, IsWritableModel, AreWritableClaims}
+use Rattle.etp_items.proofs.ReadBack.{both}
+use Rattle.etp_items.proofs.NumbersFit.{number_fits}
+
+some_none : {A : Type 0} (a : A) → Some a ≡ None → ⊥
+some_none a e = cc
+
+none_some : {A : Type 0} (a : A) → None ≡ Some a → ⊥
+none_some a e = cc
+
+false_true : false ≡ true → ⊥
+false_true e = cc
+
+-- numbers of words are below 2^32
+then_fits : (n m : Option ℕ) (o : Option (List ℕ)) (ns : List ℕ) → n ≡ m → number_then n o ≡ Some ns → (k : ℕ) × (ks : List ℕ) × (m ≡ Some k) × (o ≡ Some ks) × (ns ≡ k ∷ ks)
+then_fits (Some k) m (Some ks) ns e h = let f : k ∷ ks ≡ ns = cc in (k, ks, sym e, refl, sym f)
+then_fits (Some k) m None ns e h = absurd (none_some ns h)
+then_fits None m (Some ks) ns e h = absurd (none_some ns h)
+then_fits None m None ns e h = absurd (none_some ns h)
+
+pub numbers_fit : (ws : List (List ℕ)) (ns : List ℕ) → numbers_said ws ≡ Some ns → AllByRecursion (λ n. n < 2 ^ 32) ns
+numbers_fit [] ns e = let f : [] ≡ ns = cc in subst (AllByRecursion (λ n. n < 2 ^ 32)) f tt
+numbers_fit (w ∷ ws) ns e =
+    let t = then_fits (number_of w) (number_of w) (numbers_said ws) ns refl e in
+    subst (AllByRecursion (λ n. n < 2 ^ 32)) (sym t.4) (number_fits w t.0 t.2, numbers_fit ws t.1 t.3)
+
+pub numbers_small : (line first ns : List ℕ) → SaysNumbers line first ns → AreNumbers ns
+numbers_small line first ns s = All-from_recursion (λ n. n < 2 ^ 32) ns (numbers_fit s.more ns s.said)
+
+-- the first line that isn't blank
+pub record FirstRead (p : Place) (said : Line) (more : List Line) (q : Place) : Type 0 where
+  pub line : List ℕ
+  pub next : Place
+  pub behind : List LineText
+  pub says : Says line said
+  pub stands : after p said ≡ Some next
+  pub reads : Reads bodies next behind more q
+
+no_lines : (l : Line) (ls : List Line) → Path (List Line) (l ∷ ls) [] → ⊥
+no_lines l ls e = cc
+
+same_head : (l m : Line) (ls ms : List Line) → Path (List Line) (l ∷ ls) (m ∷ ms) → l ≡ m
+same_head l m ls ms e = cc
+
+same_tail : (l m : Line) (ls ms : List Line) → Path (List Line) (l ∷ ls) (m ∷ ms) → ls ≡ ms
+same_tail l m ls ms e = cc
+
+pub first_read : (p : Place) (xs : List LineText) (said : Line) (more : List Line) (q : Place) → Reads bodies p xs (said ∷ more) q → FirstRead p said more q
+first_read p [] said more q h = absurd (no_lines said more h.0)
+first_read p (too_long ∷ xs) said more q h = absurd h
+first_read p (whole line ∷ xs) said more q (inl h) = first_read p xs said more q h.1
+first_read p (whole line ∷ xs) said more q (inr (l, next, ls, says, a, h, e)) =
+    let first = same_head said l more ls e in
+    record {
+      line = line;
+      next = next;
+      behind = xs;
+      says = subst (Says line) (sym first) says;
+      stands = ap (after p) first ∙ a;
+      reads = subst (λ (z : List Line). Reads bodies next xs z q) (sym (same_tail said l more ls e)) h;
+    }
+
+-- where lines end, the place does
+pub nothing_read : (p : Place) (xs : List LineText) (q : Place) → Reads bodies p xs [] q → q ≡ p
+nothing_read p [] q h = h.1
+nothing_read p (too_long ∷ xs) q h = absurd h
+nothing_read p (whole line ∷ xs) q (inl h) = nothing_read p xs q h.1
+nothing_read p (whole line ∷ xs) q (inr (l, next, ls, says, a, h, e)) = absurd (no_lines l ls (sym e))
+
+-- a row that stands
+pub record RowStands (size count : ℕ) (entries : List ℕ) (next : Place) : Type 0 where
+  pub few : count < size
+  pub long : length entries ≡ size
+  pub there : next ≡ in_head (Lines.rows (record { size = size; count = count + 1 }))
+
+row_then : (b : Bool) (size count : ℕ) (entries : List ℕ) (next : Place) → (nat_lt count size && nat_eq (length entries) size) ≡ b
+    → option_map (λ r. in_head (Lines.rows r)) (cond b (Some (record { size = size; count = count + 1 })) None) ≡ Some next → RowStands size count entries next
+row_then true size count entries next e h =
+    let s = both (nat_lt count size) (nat_eq (length entries) size) e in
+    let k : in_head (Lines.rows (record { size = size; count = count + 1 })) ≡ next = cc in
+    record { few = ltb-true count size s.0; long = eqb-true (length entries) size s.1; there = sym k }
+row_then false size count entries next e h = absurd (none_some next h)
+
+pub row_stands : (size count : ℕ) (entries : List ℕ) (next : Place) → after (in_head (Lines.rows (record { size = size; count = count }))) (table_line (row entries)) ≡ Some next → RowStands size count entries next
+row_stands size count entries next h = row_then (nat_lt count size && nat_eq (length entries) size) size count entries next refl h
+
+-- rows that were read
+pub record RowsRead (size count : ℕ) (rows : List (List ℕ)) (rest : List Line) (q : Place) : Type 0 where
+  pub behind : List LineText
+  pub long : AllByRecursion (λ entries. length entries ≡ size) rows
+  pub small : AllByRecursion (λ entries. AreNumbers entries) rows
+  pub reads : Reads bodies (in_head (Lines.rows (record { size = size; count = count + length rows }))) behind rest q
+
+add_suc : (a b : ℕ) → (a + 1) + b ≡ a + (b + 1)
+add_suc a b = omega arith
+
+pub rows_read : (size count : ℕ) (xs : List LineText) (rows : List (List ℕ)) (rest : List Line) (q : Place)
+    → Reads bodies (in_head (Lines.rows (record { size = size; count = count }))) xs (map table_line (map row rows) ++ rest) q → RowsRead size count rows rest q
+rows_read size count xs [] rest q h = record {
+  behind = xs;
+  long = tt;
+  small = tt;
+  reads = subst (λ n. Reads bodies (in_head (Lines.rows (record { size = size; count = n }))) xs rest q) (let e : count ≡ count + 0 = omega arith in e) h;
+}
+rows_read size count xs (entries ∷ rows) rest q h =
+    let f = first_read (in_head (Lines.rows (record { size = size; count = count }))) xs (table_line (row entries)) (map table_line (map row rows) ++ rest) q h in
+    let s = row_stands size count entries f.next f.stands in
+    let on = rows_read size (count + 1) f.behind rows rest q (subst (λ (z : Place). Reads bodies z f.behind (map table_line (map row rows) ++ rest) q) s.there f.reads) in
+    record {
+      behind = on.behind;
+      long = (s.long, on.long);
+      small = (numbers_small f.line _ entries f.says, on.small);
+      reads = subst (λ n. Reads bodies (in_head (Lines.rows (record { size = size; count = n }))) on.behind rest q) (let e : (count + 1) + length rows ≡ count + length (entries ∷ rows) = omega arith in e) on.reads;
+    }
+
+some_numbers : (ns : List ℕ) → (ns ≡ [] → ⊥) → 0 < length ns
+some_numbers [] h = absurd (h refl)
+some_numbers (n ∷ ns) h = omega arith
+
+-- claims behind the first
+pub record FailsRead (failed : List (List ℕ)) : Type 0 where
+  pub some : 0 < length (concat failed)
+
+fails_some : (p : Place) (xs : List LineText) (f : List ℕ) (fs : List (List ℕ)) (q : Place) → Reads bodies p xs (map claim_line (map fails (f ∷ fs))) q → 0 < length (concat (f ∷ fs))
+fails_some p xs f fs q h =
+    let r = first_read p xs (claim_line (fails f)) (map claim_line (map fails fs)) q h in
+    let s = some_numbers f r.says.some in
+    omega (arith, length-append f (concat fs))
+
+holding_read : (xs : List LineText) (hs fs : List (List ℕ)) (q : Place) → is_complete q ≡ true → Reads bodies (in_claims holding) xs (map claim_line (map holds hs ++ map fails fs)) q → 0 < length (concat fs)
+holding_read xs [] [] q c h = absurd (false_true (sym (ap is_complete (nothing_read (in_claims holding) xs q h)) ∙ c))
+holding_read xs [] (f ∷ fs) q c h = fails_some (in_claims holding) xs f fs q h
+holding_read xs (k ∷ hs) fs q c h =
+    let r = first_read (in_claims holding) xs (claim_line (holds k)) (map claim_line (map holds hs ++ map fails fs)) q h in
+    let there : in_claims holding ≡ r.next = let e : Some (in_claims holding) ≡ Some r.next = r.stands in cc in
+    holding_read r.behind hs fs q c (subst (λ (z : Place). Reads bodies z r.behind (map claim_line (map holds hs ++ map fails fs)) q) (sym there) r.reads)
+
+-- claims behind a magma
+pub record ClaimsRead (size count : ℕ) (held failed : List (List ℕ)) : Type 0 where
+  pub all : count ≡ size
+  pub some_hold : 0 < length (concat held)
+  pub some_fail : 0 < length (concat failed)
+
+first_then : (b : Bool) (o : Option ClaimPlace) (next : Place) → cond b (option_map in_claims o) None ≡ Some next → (b ≡ true) × (option_map in_claims o ≡ Some next)
+first_then true o next h = (refl, h)
+first_then false o next h = absurd (none_some next h)
+
+pub claims_read : (size count : ℕ) (xs : List LineText) (hs fs : List (List ℕ)) (q : Place) → is_complete q ≡ true
+    → Reads bodies (in_head (Lines.rows (record { size = size; count = count }))) xs (map claim_line (map holds hs ++ map fails fs)) q → ClaimsRead size count hs fs
+claims_read size count xs [] [] q c h = absurd (false_true (sym (ap is_complete (nothing_read (in_head (Lines.rows (record { size = size; count = count }))) xs q h)) ∙ c))
+claims_read size count xs [] (f ∷ fs) q c h =
+    let r = first_read (in_head (Lines.rows (record { size = size; count = count }))) xs (claim_line (fails f)) (map claim_line (map fails fs)) q h in
+    let s = first_then (nat_eq count size) (first_claim (fails f)) r.next r.stands in
+    absurd (none_some r.next s.1)
+claims_read size count xs (k ∷ hs) fs q c h =
+    let r = first_read (in_head (Lines.rows (record { size = size; count = count }))) xs (claim_line (holds k)) (map claim_line (map holds hs ++ map fails fs)) q h in
+    let s = first_then (nat_eq count size) (first_claim (holds k)) r.next r.stands in
+    let there : in_claims holding ≡ r.next = let e : Some (in_claims holding) ≡ Some r.next = s.1 in cc in
+    let some = some_numbers k r.says.some in
+    record {
+      all = eqb-true count size s.0;
+      some_hold = omega (arith, length-append k (concat hs));
+      some_fail = holding_read r.behind hs fs q c (subst (λ (z : Place). Reads bodies z r.behind (map claim_line (map holds hs ++ map fails fs)) q) (sym there) r.reads);
+    }
+
+concat_length : (n : ℕ) (rows : List (List ℕ)) → AllByRecursion (λ entries. length entries ≡ n) rows → length (concat rows) ≡ length rows * n
+concat_length n [] h = omega arith
+concat_length n (r ∷ rows) h =
+    let on = concat_length n rows h.1 in
+    let one : length (r ∷ rows) * n ≡ length rows * n + n = suc-mul (length rows) n in
+    omega (arith, length-append r (concat rows), h.0)
+
+concat_small : (rows : List (List ℕ)) → AllByRecursion (λ entries. AreNumbers entries) rows → AreNumbers (concat rows)
+concat_small [] h = All-nil (λ n. n < 2 ^ 32)
+concat_small (r ∷ rows) h = All-append (λ n. n < 2 ^ 32) r (concat rows) h.0 (concat_small rows h.1)
+
+-- the numbers of claims are small
+held_small : (saids : List Line) (hs : List (List ℕ)) (rest : List ClaimLine) → AllByRecursion IsWritable (map claim_line (map holds hs ++ rest)) → AreNumbers (concat hs) × AllByRecursion IsWritable (map claim_line rest)
+held_small saids [] rest h = (All-nil (λ n. n < 2 ^ 32), h)
+held_small saids (k ∷ hs) rest h = let on = held_small saids hs rest h.1 in (All-append (λ n. n < 2 ^ 32) k (concat hs) h.0 on.0, on.1)
+
+failed_small : (fs : List (List ℕ)) → AllByRecursion IsWritable (map claim_line (map fails fs)) → AreNumbers (concat fs)
+failed_small [] h = All-nil (λ n. n < 2 ^ 32)
+failed_small (f ∷ fs) h = All-append (λ n. n < 2 ^ 32) f (concat fs) h.0 (failed_small fs h.1)
+
+skip_tables : (ts : List TableLine) (ls : List Line) → AllByRecursion IsWritable (map table_line ts ++ ls) → AllByRecursion IsWritable ls
+skip_tables [] ls h = h
+skip_tables (t ∷ ts) ls h = skip_tables ts ls h.1
+
+-- a size that stands
+size_then : (low high : Bool) (size : ℕ) (next : Place) → nat_le 1 size ≡ low → nat_le size 255 ≡ high
+    → option_map (λ r. in_head (Lines.rows r)) (cond (low && high) (Some (record { size = size; count = 0 })) None) ≡ Some next
+    → (1 ≤ size) × (size ≤ 255) × (next ≡ in_head (Lines.rows (record { size = size; count = 0 })))
+size_then true true size next l g h =
+    let k : in_head (Lines.rows (record { size = size; count = 0 })) ≡ next = cc in
+    (leb-true 1 size l, leb-true size 255 g, sym k)
+size_then true false size next l g h = absurd (none_some next h)
+size_then false high size next l g h = absurd (none_some next h)
+
+pub model_writable : (lines : List LineText) (saids : List Line) (m : Model) (c : Claims) (q : Place) → is_complete q ≡ true → Reads bodies opening lines saids q
+    → AllByRecursion IsWritable saids → SaysClaimed saids m c → IsWritableModel m × AreWritableClaims c
+model_writable lines saids (Bodies.table size entries) c q complete reads writable s =
+    let t = s.says_model.2 in
+    let e = s.says_claims in
+    let rest = map claim_line (map holds e.held ++ map fails e.failed) in
+    let whole : saids ≡ table_line (table size) ∷ (map table_line (map row t.rows) ++ rest) =
+    s.whole ∙ ap (λ z. z ++ map claim_line s.behind) (s.says_model.1 ∙ ap (map table_line) t.whole) ∙ ap (λ z. map table_line (table size ∷ map row t.rows) ++ map claim_line z) e.whole in
+    let f = first_read opening lines (table_line (table size)) (map table_line (map row t.rows) ++ rest) q (subst (λ (z : List Line). Reads bodies opening lines z q) whole reads) in
+    let range = size_then (nat_le 1 size) (nat_le size 255) size f.next refl refl f.stands in
+    let rows = rows_read size 0 f.behind t.rows rest q (subst (λ (z : Place). Reads bodies z f.behind (map table_line (map row t.rows) ++ rest) q) range.2 f.reads) in
+    let claims = claims_read size (0 + length t.rows) rows.behind e.held e.failed q complete rows.reads in
+    let many : length t.rows ≡ size = omega (arith, claims.all) in
+    let w = subst (AllByRecursion IsWritable) whole writable in
+    let behind = skip_tables (table size ∷ map row t.rows) rest w in
+    let held = held_small saids e.held (map fails e.failed) behind in (
+      (
+        range.0,
+        range.1,
+        ap length t.entries_are ∙ concat_length size t.rows rows.long ∙ ap (λ n. n * size) many,
+        rw t.entries_are (concat_small t.rows rows.small),
+      ),
+      record {
+        some_hold = rw e.holds_are claims.some_hold;
+        some_fail = rw e.fails_are claims.some_fail;
+        holds_small = rw e.holds_are held.0;
+        fails_small = rw e.fails_are (failed_small e.failed held.1);
+      },
+    )

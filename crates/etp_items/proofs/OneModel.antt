@@ -1,0 +1,96 @@
+-- Lines tell one magma, and make one list of claims.
+use Rattle.std.proofs.Common.{◌≡◌, ℕ, List, [], ◌∷◌, ◌++◌, map, refl, sym, ap, ◌∙◌, Option, Some, None, append_assoc, append-nil}
+use Rattle.std.specs.List.{concat}
+use Rattle.etp_items.specs.TableLines.{TableLine, table, row, SaysRows}
+use Rattle.etp_items.specs.Claims.{ClaimLine, holds, fails, Claims, SaysClaims}
+use Rattle.etp_items.specs.BodyLines.{Line, of_proofs, of_tables, of_claims, table_line, claim_line}
+use Rattle.etp_items.specs.Bodies.{Model}
+use Rattle.etp_items.specs.Bodies as Bodies
+use Rattle.etp_items.specs.Reading.{SaysModel, SaysClaimed}
+
+-- the entries of the rows among lines
+abbrev pub entries_in : List Line → List ℕ
+entries_in [] = []
+entries_in ((of_tables, row entries) ∷ lines) = entries ++ entries_in lines
+entries_in (_ ∷ lines) = entries_in lines
+
+-- the laws that hold, and those that fail, among lines
+abbrev pub holds_in : List Line → List ℕ
+holds_in [] = []
+holds_in ((of_claims, holds numbers) ∷ lines) = numbers ++ holds_in lines
+holds_in (_ ∷ lines) = holds_in lines
+
+abbrev pub fails_in : List Line → List ℕ
+fails_in [] = []
+fails_in ((of_claims, fails numbers) ∷ lines) = numbers ++ fails_in lines
+fails_in (_ ∷ lines) = fails_in lines
+
+-- the magma that the first line begins
+abbrev pub model_in : List Line → Option Model
+model_in ((of_tables, table size) ∷ lines) = Some (Bodies.table size (entries_in lines))
+model_in _ = None
+
+rows_entries : (rs : List (List ℕ)) (ls : List Line) → entries_in (map table_line (map row rs) ++ ls) ≡ concat rs ++ entries_in ls
+rows_entries [] ls = refl
+rows_entries (r ∷ rs) ls = ap (λ z. r ++ z) (rows_entries rs ls) ∙ sym (append_assoc r (concat rs) (entries_in ls))
+
+claims_entries : (cs : List ClaimLine) → entries_in (map claim_line cs) ≡ []
+claims_entries [] = refl
+claims_entries (holds n ∷ cs) = claims_entries cs
+claims_entries (fails n ∷ cs) = claims_entries cs
+
+pub model_told : (head : List Line) (cs : List ClaimLine) (m : Model) → SaysModel head m → model_in (head ++ map claim_line cs) ≡ Some m
+model_told head cs (Bodies.table size entries) (lines, e, s) =
+    ap (λ (z : List Line). model_in (z ++ map claim_line cs)) (e ∙ ap (map table_line) s.whole)
+    ∙ ap (λ z. Some (Bodies.table size z)) (rows_entries s.rows (map claim_line cs) ∙ ap (λ z. concat s.rows ++ z) (claims_entries cs) ∙ append-nil (concat s.rows) ∙ sym s.entries_are)
+
+tables_hold : (ts : List TableLine) (ls : List Line) → holds_in (map table_line ts ++ ls) ≡ holds_in ls
+tables_hold [] ls = refl
+tables_hold (t ∷ ts) ls = tables_hold ts ls
+
+tables_fail : (ts : List TableLine) (ls : List Line) → fails_in (map table_line ts ++ ls) ≡ fails_in ls
+tables_fail [] ls = refl
+tables_fail (t ∷ ts) ls = tables_fail ts ls
+
+failed_hold : (fs : List (List ℕ)) → holds_in (map claim_line (map fails fs)) ≡ []
+failed_hold [] = refl
+failed_hold (f ∷ fs) = failed_hold fs
+
+held_hold : (hs fs : List (List ℕ)) → holds_in (map claim_line (map holds hs ++ map fails fs)) ≡ concat hs
+held_hold [] fs = failed_hold fs
+held_hold (h ∷ hs) fs = ap (λ z. h ++ z) (held_hold hs fs)
+
+failed_fail : (fs : List (List ℕ)) → fails_in (map claim_line (map fails fs)) ≡ concat fs
+failed_fail [] = refl
+failed_fail (f ∷ fs) = ap (λ z. f ++ z) (failed_fail fs)
+
+held_fail : (hs fs : List (List ℕ)) → fails_in (map claim_line (map holds hs ++ map fails fs)) ≡ concat fs
+held_fail [] fs = failed_fail fs
+held_fail (h ∷ hs) fs = held_fail hs fs
+
+same_claims : (c d : Claims) → c.holds ≡ d.holds → c.fails ≡ d.fails → c ≡ d
+same_claims c d e f = ap (λ z. record { holds = z; fails = c.fails }) e ∙ ap (λ z. record { holds = d.holds; fails = z }) f
+
+-- the laws of the claims are those of the lines
+pub claims_told : (saids : List Line) (m : Model) (c : Claims) → SaysClaimed saids m c → (holds_in saids ≡ c.holds) × (fails_in saids ≡ c.fails)
+claims_told saids (Bodies.table size entries) c s =
+    let ts = s.says_model.0 in
+    let whole : saids ≡ map table_line ts ++ map claim_line s.behind = s.whole ∙ ap (λ z. z ++ map claim_line s.behind) s.says_model.1 in
+    let lines = s.says_claims.whole in (
+      ap holds_in whole ∙ tables_hold ts (map claim_line s.behind) ∙ ap (λ z. holds_in (map claim_line z)) lines ∙ held_hold s.says_claims.held s.says_claims.failed ∙ sym s.says_claims.holds_are,
+      ap fails_in whole ∙ tables_fail ts (map claim_line s.behind) ∙ ap (λ z. fails_in (map claim_line z)) lines ∙ held_fail s.says_claims.held s.says_claims.failed ∙ sym s.says_claims.fails_are,
+    )
+
+pub model_is : (saids : List Line) (m : Model) (c : Claims) → SaysClaimed saids m c → model_in saids ≡ Some m
+model_is saids m c s = ap model_in s.whole ∙ model_told s.head s.behind m s.says_model
+
+some_same : (m n : Model) → Some m ≡ Some n → m ≡ n
+some_same m n e = cc
+
+pub one_model : (saids : List Line) (m n : Model) (c d : Claims) → SaysClaimed saids m c → SaysClaimed saids n d → (m ≡ n) × (c ≡ d)
+one_model saids m n c d s t =
+    let a = claims_told saids m c s in
+    let b = claims_told saids n d t in (
+      some_same m n (sym (model_is saids m c s) ∙ model_is saids n d t),
+      same_claims c d (sym a.0 ∙ b.0) (sym a.1 ∙ b.1),
+    )
