@@ -1,7 +1,8 @@
 -- What a valid body says is right where what it cites is.
-use Rattle.std.proofs.Common.{◌≡◌, ℕ, zero, suc, List, Contains, Option, Some, None, IsSome, is_some, unwrap_or, true≢false, refl, length, map, slice_get, sym, ap, subst, ◌∙◌, arith}
+use Rattle.std.proofs.Common.{◌≡◌, ℕ, zero, suc, List, Contains, Option, Some, None, IsSome, is_some, unwrap_or, true≢false, refl, length, map, slice_get, sym, ap, subst, ◌∙◌, arith, Result, OnOk}
 use Rattle.std.specs.Option.{option_map}
-use Rattle.std.proofs.lemmas.List.Elements.{All-contains}
+use Rattle.std.proofs.lemmas.List.Elements.{All-contains, All-weaker}
+use Rattle.std.proofs.lemmas.Result.{on_ok_weaker}
 use Rattle.std.proofs.lemmas.Option.{slice_get-map, slice_get_within, get_or_from_slice_get}
 use Rattle.etp_theory.specs.Trees.{Equation}
 use Rattle.etp_theory.specs.Derivations.{Derives}
@@ -13,8 +14,9 @@ use Rattle.etp_laws.specs.Listing.{trivial}
 use Rattle.etp_laws.proofs.Entries.{entry_zero}
 use Rattle.etp_replay.specs.Validity.{law_at}
 use Rattle.etp_replay.proofs.Goals.{listed_law}
-use Rattle.etp_items.specs.Bodies.{FileBody, proof}
-use Rattle.etp_check.specs.Checks.{fact_said, IsListedBody, IsValidBody, SaysRight, HasLaws}
+use Rattle.etp_table.proofs.Tables as Tables
+use Rattle.etp_items.specs.Bodies.{FileBody, table, proof, model}
+use Rattle.etp_check.specs.Checks.{fact_said, IsListedBody, HasContent, AreCitedNumbers, IsRightBody, IsValidBody, SaysRight, HasLaws}
 
 same_some : (p q : Equation) → Some p ≡ Some q → p ≡ q
 same_some p q e = cc
@@ -49,6 +51,12 @@ right_fact laws (proof p) cited valid implied = record {
       let right = λ (n : ℕ) (there : Contains cited n). All-contains (Implies laws p.hypothesis) cited n implied there in
       proof_laws.proved (law_at laws p.hypothesis) (law_at laws p.goal) (map (law_at laws) cited) p.lemmas (all_derived laws p.hypothesis cited valid.listed.hypothesis_listed right) valid.right;
 }
+right_fact laws (model (table size entries) claims) cited valid implied =
+    Tables.right_fact laws (record { size = size; entries = entries }) claims.holds claims.fails valid.right.0 valid.right.1
+
+pub says_right : {T E : Type 0} (r : Result T E) (laws : List Equation) (body : FileBody) (cited : List ℕ) → IsListedBody laws body → HasContent body → AreCitedNumbers laws body cited → OnOk r (IsRightBody laws body cited) → OnOk r (SaysRight laws body cited)
+says_right r laws body cited listed content numbers right =
+    on_ok_weaker r (λ right. right_fact laws body cited (record { listed = listed; content = content; numbers = numbers; right = right })) right
 
 -- a listed number is one of the list's laws
 listed_number : (laws : List Equation) (n : ℕ) → IsSome (law_numbered laws n) → IsLaw (length laws) n
@@ -60,3 +68,7 @@ listed_number laws (suc k) h =
 
 pub listed_fact : (laws : List Equation) (body : FileBody) → IsListedBody laws body → HasLaws (length laws) (fact_said body)
 listed_fact laws (proof p) listed = (listed_number laws p.hypothesis listed.hypothesis_listed, listed_number laws p.goal listed.goal_listed)
+listed_fact laws (model m claims) listed = (
+  All-weaker (λ n. IsSome (law_numbered laws n)) (IsLaw (length laws)) (listed_number laws) claims.holds listed.holds_listed,
+  All-weaker (λ n. IsSome (law_numbered laws n)) (IsLaw (length laws)) (listed_number laws) claims.fails listed.fails_listed,
+)

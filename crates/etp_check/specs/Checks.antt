@@ -1,28 +1,43 @@
 -- What a body says, when it is valid, and when what it says is right.
-use Rattle.std.specs.Prelude.{◌≡◌, ◌<◌, ℕ, List, Option, Some, None, All, IsSome, length, map}
+use Rattle.std.specs.Prelude.{◌≡◌, ◌*◌, ◌<◌, ◌≤◌, ℕ, List, [], Option, Some, None, All, IsSome, length, map}
 use Rattle.etp_theory.specs.Trees.{Equation}
 use Rattle.etp_theory.specs.Proofs.{IsValidProof}
 use Rattle.etp_theory.specs.Reach.{Fact, implies, refutes}
 use Rattle.etp_theory.specs.RightFacts.{Implies, IsRightFact}
 use Rattle.etp_theory.specs.Numbered.{IsLaw, law_numbered}
 use Rattle.etp_replay.specs.Validity.{law_at}
-use Rattle.etp_items.specs.Bodies.{FileBody, ProofBody, proof}
+use Rattle.etp_table.specs.Tables.{IsTable}
+use Rattle.etp_table.specs.Judgements.{IsJudged}
+use Rattle.etp_items.specs.Claims.{Claims}
+use Rattle.etp_items.specs.Bodies.{FileBody, ProofBody, Model, table, proof, model}
 
--- a proof says that its hypothesis implies its goal
+-- a proof says that its hypothesis implies its goal, a magma that no law that holds implies one that fails
 abbrev pub fact_said : FileBody → Fact
 fact_said (proof p) = implies p.hypothesis p.goal
+fact_said (model m claims) = refutes claims.holds claims.fails
 
 -- the laws that a body names are listed
 pub record HasListedLaws (laws : List Equation) (p : ProofBody) : Type 0 where
   pub hypothesis_listed : IsSome (law_numbered laws p.hypothesis)
   pub goal_listed : IsSome (law_numbered laws p.goal)
 
+-- the laws that claims name are listed
+pub record HasListedClaims (laws : List Equation) (claims : Claims) : Type 0 where
+  pub holds_listed : All (λ n. IsSome (law_numbered laws n)) claims.holds
+  pub fails_listed : All (λ n. IsSome (law_numbered laws n)) claims.fails
+
 abbrev pub IsListedBody : List Equation → FileBody → Type 0
 IsListedBody laws (proof p) = HasListedLaws laws p
+IsListedBody laws (model m claims) = HasListedClaims laws claims
+
+-- a table has size times size entries
+abbrev pub HasModelContent : Model → Type 0
+HasModelContent (table size entries) = (1 ≤ size) × (length entries ≡ size * size)
 
 -- a proof has a lemma
 abbrev pub HasContent : FileBody → Type 0
 HasContent (proof p) = 0 < length p.lemmas
+HasContent (model m claims) = HasModelContent m
 
 -- all laws that the fact names are among so many laws
 abbrev pub HasLaws : ℕ → Fact → Type 0
@@ -32,20 +47,30 @@ HasLaws count (refutes holds fails) = All (IsLaw count) holds × All (IsLaw coun
 -- the names of the files that a body cites
 abbrev pub cites_of : FileBody → List (List ℕ)
 cites_of (proof p) = p.cites
+cites_of (model m claims) = []
 
 -- the law, if any, from which a body proves, and from which the files that it cites must prove too
 abbrev pub hypothesis_of : FileBody → Option ℕ
 hypothesis_of (proof p) = Some p.hypothesis
+hypothesis_of (model m claims) = None
 
 -- one listed number for each cite
 pub record AreCitedNumbers (laws : List Equation) (body : FileBody) (cited : List ℕ) : Type 0 where
   pub as_many : length cited ≡ length (cites_of body)
   pub cited_listed : All (λ n. IsSome (law_numbered laws n)) cited
 
--- with the laws of the cited numbers a proof derives its goal step by step
+-- the magma is one, the laws that are to hold do so, with few enough assignments to look at all, and
+-- those that are to fail do so at one that is looked at
+abbrev pub IsRightModel : List Equation → Model → Claims → Type 0
+IsRightModel laws (table size entries) claims =
+    IsTable (record { size = size; entries = entries })
+    × IsJudged laws (record { size = size; entries = entries }) claims.holds claims.fails
+
+-- with the laws of the cited numbers a proof derives its goal step by step; a magma is right
 abbrev pub IsRightBody : List Equation → FileBody → List ℕ → Type 0
 IsRightBody laws (proof p) cited =
     IsValidProof (law_at laws p.hypothesis) (law_at laws p.goal) (map (law_at laws) cited) p.lemmas
+IsRightBody laws (model m claims) cited = IsRightModel laws m claims
 
 -- the body meets what its check requires, with one listed number for each cite, and is right with
 -- the laws of these numbers

@@ -1,17 +1,33 @@
 -- Why a body is refused.
 use Rattle.std.specs.Prelude.{◌≡◌, ◌⊎◌, ℕ, List, map}
 use Rattle.etp_laws.specs.LawLists.{LawList}
-use Rattle.etp_replay.specs.Validity.{law_at, IsFirstOffence}
-use Rattle.etp_items.specs.Bodies.{FileBody, proof}
+use Rattle.etp_theory.specs.Trees.{Equation}
+use Rattle.etp_replay.specs.Validity as Replay
+use Rattle.etp_replay.specs.Validity.{law_at}
+use Rattle.etp_table.specs.Tables.{IsTable}
+use Rattle.etp_table.specs.Entries.{IsFirstWrong}
+use Rattle.etp_table.specs.Judgements.{IsFirstOffence}
+use Rattle.etp_items.specs.Claims.{Claims}
+use Rattle.etp_items.specs.Bodies.{FileBody, Model, table, proof, model}
 use Rattle.etp_check.specs.declared.refusal.CheckRefusal.{CheckRefusal}
-use Rattle.etp_check.specs.declared.refusal.CheckRefusal.TheVariants.{Replay, NoMemory}
+use Rattle.etp_check.specs.declared.refusal.CheckRefusal.TheVariants.{Replay, Table, NoMemory}
 
--- the first offence of a proof: a wrong step, or else another goal than the one named
+-- the first offence of a magma: of a table its first entry that isn't below the size, or else the first
+-- law that isn't as it is to be
+abbrev pub IsModelOffence : List Equation → Model → Claims → CheckRefusal → Type 0
+IsModelOffence laws (table size entries) claims (Table r) =
+    IsFirstWrong size entries r
+    ⊎ (IsTable (record { size = size; entries = entries })
+    × IsFirstOffence laws (record { size = size; entries = entries }) claims.holds claims.fails r)
+IsModelOffence laws (table size entries) claims _ = ⊥
+
+-- the first offence of a proof: a wrong step, or else another goal than the one named; or that of a magma
 abbrev pub IsBodyOffence : LawList → FileBody → List ℕ → CheckRefusal → Type 0
 IsBodyOffence l (proof p) cited (Replay r) =
-    IsFirstOffence l (law_at l.equations p.hypothesis) (law_at l.equations p.goal)
+    Replay.IsFirstOffence l (law_at l.equations p.hypothesis) (law_at l.equations p.goal)
     (map (law_at l.equations) cited) p.lemmas r
-IsBodyOffence l (proof p) cited NoMemory = ⊥
+IsBodyOffence l (proof p) cited _ = ⊥
+IsBodyOffence l (model m claims) cited r = IsModelOffence l.equations m claims r
 
 -- want of memory, or the first offence of a body with these cited numbers
 abbrev pub IsCheckRefused : LawList → FileBody → List ℕ → CheckRefusal → Type 0

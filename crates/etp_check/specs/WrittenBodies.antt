@@ -4,7 +4,7 @@ use Rattle.etp_theory.specs.Trees.{Equation}
 use Rattle.etp_io.specs.Texts.{LineText, lines_of}
 use Rattle.etp_items.specs.Bodies.{FileBody}
 use Rattle.etp_items.specs.Reading.{IsReadBody}
-use Rattle.etp_items.specs.Written.{written_body, IsShortBody}
+use Rattle.etp_items.specs.Written.{written_body, IsShortBody, HasFewLines}
 use Rattle.etp_check.specs.Checks.{IsRightBody}
 
 pub record WrittenLaws : Type 0 where
@@ -14,4 +14,4 @@ pub record WrittenLaws : Type 0 where
   -- and what is written, closed and read again, is the body
   pub valid_body_reads : (laws : List Equation) (cited : List ℕ) (count : ℕ) (lines : List LineText) (closed : Bool)
       (body : FileBody) → IsReadBody count lines closed body → IsRightBody laws body cited
-      → IsReadBody count (lines_of (written_body body)) true body
+      → HasFewLines body → IsReadBody count (lines_of (written_body body)) true body

@@ -1,6 +1,9 @@
 ghost use Rattle.std.specs.Prelude.{◌≡◌, ◌≢◌, ◌⊎◌};
+ghost use Rattle.etp_check.specs.declared.refusal.CheckRefusal.TheVariants.{NoMemory};
 
 use etp_replay::ReplayRefusal;
+use etp_table::TableRefusal;
+use std::alloc::AllocError;
 use thiserror::Error;
 
 /// Why a body is refused.
@@ -9,9 +12,20 @@ pub enum CheckRefusal {
     /// The first offence of a proof; it is never want of memory.
     #[error("the proof isn't valid")]
     Replay(ReplayRefusal),
+    /// The first offence of a table and its claims; it is never want of memory.
+    #[error("the table isn't valid")]
+    Table(TableRefusal),
     /// Want of memory.
     #[error("out of memory")]
     NoMemory,
+}
+
+impl From<AllocError> for CheckRefusal {
+    ghost from_gives = { λ _ e. e ≡ NoMemory };
+
+    fn from(_error: AllocError) -> CheckRefusal {
+        CheckRefusal::NoMemory
+    }
 }
 
 impl CheckRefusal {
@@ -22,6 +36,16 @@ impl CheckRefusal {
         match refusal {
             ReplayRefusal::NoMemory => CheckRefusal::NoMemory,
             offence => CheckRefusal::Replay(offence),
+        }
+    }
+
+    pub(crate) fn of_table(refusal: TableRefusal) -> CheckRefusal
+        ensures { ((result ≡ CheckRefusal.NoMemory) × (refusal ≡ TableRefusal.NoMemory))
+            ⊎ ((result ≡ CheckRefusal.Table refusal) × (refusal ≢ TableRefusal.NoMemory)) }
+    {
+        match refusal {
+            TableRefusal::NoMemory => CheckRefusal::NoMemory,
+            offence => CheckRefusal::Table(offence),
         }
     }
 }
