@@ -1,2 +1,3 @@
 pub mod TextLemmas
 pub mod GivenLemmas
+pub mod Values

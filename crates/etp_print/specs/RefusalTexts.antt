@@ -1,5 +1,5 @@
 -- The texts of refusals.
-use Rattle.std.specs.Prelude.{ℕ, List, [], ◌++◌, codes, decimal}
+use Rattle.std.specs.Prelude.{ℕ, ◌+◌, List, [], ◌∷◌, ◌++◌, codes, decimal}
 use Rattle.etp_laws.specs.declared.laws.Numbered.{Numbered}
 use Rattle.etp_laws.specs.declared.laws.Numbered.TheVariants.{Is, Trivial, TooManyOps}
 use Rattle.etp_text.specs.declared.refusal.TextRefusal.{TextRefusal}
@@ -11,6 +11,10 @@ use Rattle.etp_check.specs.declared.refusal.CheckRefusal.TheVariants as Checked
 use Rattle.etp_ledger.specs.declared.refusal.LedgerRefusal.{LedgerRefusal}
 use Rattle.etp_ledger.specs.declared.refusal.LedgerRefusal.TheVariants as Files
 use Rattle.etp_replay.specs.declared.refusal.ReplayRefusal.{ReplayRefusal}
+use Rattle.etp_text.specs.Written.{variable_name}
+use Rattle.etp_table.specs.Points.{values_of}
+use Rattle.etp_table.specs.declared.refusal.TableRefusal.{TableRefusal}
+use Rattle.etp_table.specs.declared.refusal.TableRefusal.TheVariants as Table
 use Rattle.etp_replay.specs.declared.refusal.ReplayRefusal.TheVariants.{Reference, NoPlace, OutsideChanged, NoMatch, GoalDiffers, Citation, NoMemory}
 
 -- why the text of a law is refused
@@ -47,9 +51,39 @@ replay_refusal (GoalDiffers found) = codes "goal differs found " ++ found_text f
 replay_refusal (Citation lemma step cite) = codes "citation" ++ step_place lemma step ++ codes " cite " ++ decimal cite
 replay_refusal NoMemory = []
 
+-- the value of a variable, behind a space
+abbrev pub value_text : ℕ → ℕ → List ℕ
+value_text variable value = codes " " ++ variable_name variable ++ codes "=" ++ decimal value
+
+-- the values of the variables from variable n on
+abbrev pub values_text : ℕ → List ℕ → List ℕ
+values_text n [] = []
+values_text n (value ∷ values) = value_text n value ++ values_text (n + 1) values
+
+-- a size, and how many variables there are
+abbrev pub counts_text : ℕ → ℕ → List ℕ
+counts_text size variables = codes " size " ++ decimal size ++ codes " variables " ++ decimal variables
+
+-- the values of both sides
+abbrev pub sides_text : ℕ → ℕ → List ℕ
+sides_text left right = codes " left " ++ decimal left ++ codes " right " ++ decimal right
+
+-- why a table is refused
+abbrev pub table_refusal : TableRefusal → List ℕ
+table_refusal (Table.Entry row column value) =
+    codes "entry row " ++ decimal row ++ codes " column " ++ decimal column ++ codes " value " ++ decimal value
+table_refusal (Table.TooManyAssignments law size variables) =
+    codes "too many assignments law " ++ decimal law ++ counts_text size variables
+table_refusal (Table.HoldsFails law point left right) =
+    codes "holds fails law " ++ decimal law ++ values_text 0 (values_of point) ++ sides_text left right
+table_refusal (Table.FailsHolds law looked_at) =
+    codes "fails holds law " ++ decimal law ++ codes " looked at " ++ decimal looked_at
+table_refusal Table.NoMemory = []
+
 -- why a body isn't valid
 abbrev pub check_refusal : CheckRefusal → List ℕ
 check_refusal (Checked.Replay r) = replay_refusal r
+check_refusal (Checked.Table r) = table_refusal r
 check_refusal Checked.NoMemory = []
 
 -- why the ledger refuses a file

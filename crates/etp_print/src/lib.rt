@@ -3,9 +3,11 @@
 
 mod line;
 mod refusal;
+mod table;
 
 pub use line::{begin_refusal, refuse, refuse_file, refuse_name, refuse_with};
 pub use refusal::{body_refusal_text, file_refusal_text, replay_text};
+pub use table::table_text;
 
 #[cfg(test)]
 mod tests;

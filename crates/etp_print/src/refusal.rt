@@ -2,6 +2,7 @@
 ghost use Rattle.std.specs.Prelude.{◌≡◌, ◌≢◌, ◌++◌, IfOk, OnOk, codes, decimal};
 ghost use Rattle.etp_print.specs.RefusalTexts.{body_refusal, found_text, step_place, replay_refusal, file_refusal};
 
+use crate::table::append_table_refusal;
 use etp_check::CheckRefusal;
 use etp_laws::Numbered;
 use etp_ledger::LedgerRefusal;
@@ -11,7 +12,7 @@ use etp_text::Text;
 use std::alloc::{AllocError, Global};
 
 // Appends words and a number.
-fn append_with(text: &mut Text, words: &[u8], n: u32) -> Result<(), AllocError>
+pub(crate) fn append_with(text: &mut Text, words: &[u8], n: u32) -> Result<(), AllocError>
     ensures { OnOk result (text.new ≡ text.old ++ (words.now ++ decimal n)) }
 {
     text.append(words)?;
@@ -85,6 +86,7 @@ fn append_file_refusal(text: &mut Text, refusal: &LedgerRefusal) -> Result<(), A
 {
     match refusal {
         LedgerRefusal::Check(CheckRefusal::Replay(refusal)) => append_replay_refusal(text, refusal),
+        LedgerRefusal::Check(CheckRefusal::Table(refusal)) => append_table_refusal(text, refusal),
         LedgerRefusal::CiteMissing { cite } => append_with(text, b"cite missing ", *cite),
         LedgerRefusal::CiteOther { cite } => append_with(text, b"cite other ", *cite),
         LedgerRefusal::NoMemory => Err(AllocError),

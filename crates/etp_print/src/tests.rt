@@ -1,10 +1,11 @@
 use crate::{
     begin_refusal, body_refusal_text, file_refusal_text, refuse, refuse_file, refuse_name,
-    refuse_with, replay_text,
+    refuse_with, replay_text, table_text,
 };
 use etp_ledger::LedgerRefusal;
 use etp_reading::BodyRefusal;
 use etp_replay::ReplayRefusal;
+use etp_table::{Point, TableRefusal};
 use etp_text::Text;
 
 #[test]
@@ -43,6 +44,17 @@ fn refusals_have_texts(rt: HostRuntime) {
     };
     let text = replay_text(alloc, &replay).expect(&rt, "memory");
     assert!(rt; text.as_slice() == b"reference lemma 1 step 1 line 1".as_slice());
+    let table = TableRefusal::HoldsFails {
+        law: 5,
+        point: Point {
+            values: [0, 1, 0, 0, 0, 0, 0, 0],
+            variables: 2,
+        },
+        left: 0,
+        right: 1,
+    };
+    let text = table_text(alloc, &table).expect(&rt, "memory");
+    assert!(rt; text.as_slice() == b"holds fails law 5 x=0 y=1 left 0 right 1".as_slice());
     let file = LedgerRefusal::CiteMissing { cite: 2 };
     let text = file_refusal_text(alloc, &file).expect(&rt, "memory");
     assert!(rt; text.as_slice() == b"cite missing 2".as_slice());

@@ -1,6 +1,5 @@
 -- The replies that show a law are one each.
-use Rattle.std.proofs.Common.{◌≡◌, ℕ, ◌<◌, List, refl, sym, ◌∙◌, ap, subst, Option, None, Some, arith}
-use Rattle.std.specs.Prelude.{codes}
+use Rattle.std.proofs.Common.{◌≡◌, ℕ, List, sym, ◌∙◌, ap, subst, Option, None, Some, arith}
 use Rattle.etp_theory.specs.Trees.{Equation, law_dual}
 use Rattle.etp_theory.specs.Numbered.{law_numbered}
 use Rattle.etp_laws.specs.Listing.{IsTheList}

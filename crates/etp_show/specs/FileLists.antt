@@ -1,11 +1,21 @@
 -- The files that stand, as lines.
 use Rattle.std.specs.Prelude.{ℕ, List, [], ◌∷◌, ◌++◌, codes, decimal, length}
-use Rattle.etp_items.specs.Bodies.{FileBody, proof}
+use Rattle.etp_items.specs.Claims.{Claims}
+use Rattle.etp_items.specs.Bodies.{FileBody, Model, table, proof, model}
 use Rattle.etp_ledger.specs.Files.{File}
+
+-- how many laws are to hold, and how many are to fail
+abbrev pub counts_text : Claims → List ℕ
+counts_text claims = decimal (length claims.holds) ++ codes " " ++ decimal (length claims.fails)
+
+-- the word of a magma's kind
+abbrev pub model_word : Model → List ℕ
+model_word (table size entries) = codes "table"
 
 -- a file's kind and laws
 abbrev pub kind_text : FileBody → List ℕ
 kind_text (proof p) = codes "proof " ++ decimal p.hypothesis ++ codes " " ++ decimal p.goal
+kind_text (model m claims) = model_word m ++ codes " " ++ counts_text claims
 
 -- a line for each file
 abbrev pub file_lines : List File → List ℕ

@@ -1,14 +1,23 @@
 // Replies that show the files that stand.
 ghost use Rattle.std.specs.Prelude.{◌≡◌, ◌++◌, ◌∷◌, [], IfOk, OnOk, codes};
-ghost use Rattle.etp_items.specs.Bodies.{body_of};
+ghost use Rattle.etp_items.specs.Bodies.{body_of, claims_of};
 ghost use Rattle.etp_print.specs.Texts.{answered};
 ghost use Rattle.etp_print.specs.Given.{Gives};
-ghost use Rattle.etp_show.specs.FileLists.{files_text, kind_text};
+ghost use Rattle.etp_show.specs.FileLists.{files_text, kind_text, counts_text};
 
-use etp_items::Body;
+use etp_items::{Body, Claims};
 use etp_ledger::Ledger;
 use etp_text::Text;
 use std::alloc::AllocError;
+
+// How many laws are to hold, and how many are to fail.
+fn append_counts(text: &mut Text, claims: &Claims) -> Result<(), AllocError>
+    ensures { OnOk result (text.new ≡ text.old ++ counts_text (claims_of claims.now)) }
+{
+    text.append_number(u64::from(claims.holds.len()))?;
+    text.append(b" ")?;
+    text.append_number(u64::from(claims.fails.len()))
+}
 
 fn append_kind(text: &mut Text, body: &Body) -> Result<(), AllocError>
     ensures { OnOk result (text.new ≡ text.old ++ kind_text (body_of body.now)) }
@@ -19,6 +28,10 @@ fn append_kind(text: &mut Text, body: &Body) -> Result<(), AllocError>
             text.append_number(u64::from(proof.hypothesis))?;
             text.append(b" ")?;
             text.append_number(u64::from(proof.goal))
+        }
+        Body::Table(table) => {
+            text.append(b"table ")?;
+            append_counts(text, &table.claims)
         }
     }
 }
