@@ -1,5 +1,5 @@
 -- Replies to files from the parts that give them.
-use Rattle.std.proofs.Common.{◌≡◌, ℕ, List, [], ◌∷◌, ◌++◌, refl, sym, ◌∙◌, ap, subst, Option, None, Some, Bool, true, false}
+use Rattle.std.proofs.Common.{◌≡◌, ℕ, List, [], ◌∷◌, ◌++◌, refl, sym, ◌∙◌, ap, Option, None, Some, Bool, true, false}
 use Rattle.etp_io.specs.Texts.{LineText, whole, too_long}
 use Rattle.std.specs.Prelude.{is_some, position, if◌then◌else◌}
 use Rattle.etp_words.specs.Words.{words_of}
@@ -14,7 +14,7 @@ use Rattle.etp_desk.specs.States.{Filing}
 use Rattle.etp_desk.specs.Desks.{opened_of, Agrees, Leaves}
 use Rattle.etp_desk.specs.declared.opened.Opened.{Opened}
 use Rattle.etp_desk.proofs.Opening.{kept}
-use Rattle.etp_filing.specs.FileReplies.{FileReply, names_unbuilt, begins_unbuilt, are_all_blank, accepted_line}
+use Rattle.etp_filing.specs.FileReplies.{FileReply, names_unbuilt, begins_unbuilt, are_all_blank, said_text, accepted_with, accepted_line}
 use Rattle.etp_filing.specs.Filings.{begins_as, with_line, IsReading}
 use Rattle.etp_filing.specs.declared.filing.Begins.TheVariants.{Blank, NotBuilt, Other}
 use Rattle.etp_filing.proofs.FilingLemmas.{unbuilt-first, unbuilt-later, blank-first, blank-later, placed-stands, unplaced-free}
@@ -103,11 +103,11 @@ found-free name files (Some k) b e f t = let x : true ≡ false = sym f ∙ t in
 found-free name files None b e f t = unplaced-free name files (sym e)
 
 -- the line of an accepted file
-pub accepted-text : (old slice label empty shown name text : List ℕ) (said fact : Fact) → old ≡ [] → slice ≡ label → label ≡ empty ++ shown → empty ≡ [] → shown ≡ name → said ≡ fact
-    → text ≡ old ++ accepted_line slice said → text ≡ accepted_line name fact
+pub accepted-text : (old slice label empty shown name text said : List ℕ) (fact : Fact) → old ≡ [] → slice ≡ label → label ≡ empty ++ shown → empty ≡ [] → shown ≡ name → said ≡ said_text fact
+    → text ≡ old ++ accepted_with slice said → text ≡ accepted_line name fact
 accepted-text old slice label empty shown name text said fact o s l e n f t =
     let same : slice ≡ name = s ∙ l ∙ ap (λ (x : List ℕ). x ++ shown) e ∙ n in
-    t ∙ ap (λ (x : List ℕ). x ++ accepted_line slice said) o ∙ ap (λ (x : List ℕ). accepted_line x said) same ∙ ap (accepted_line name) f
+    t ∙ ap (λ (x : List ℕ). x ++ accepted_with slice said) o ∙ ap (λ (x : List ℕ). accepted_with x said) same ∙ ap (accepted_with name) f
 
 -- the same refusal under the name and the number that are known
 pub refusal-text : (n m : ℕ) (slice label empty shown name why text : List ℕ) → m ≡ n → slice ≡ label → label ≡ empty ++ shown → empty ≡ [] → shown ≡ name

@@ -1,9 +1,9 @@
 -- What one body line more does to a file that is read, and what a body that was read has.
-use Rattle.std.proofs.Common.{◌≡◌, ℕ, ◌+◌, ◌<◌, ◌≤◌, inl, inr, nat_lt, not, cond, append-nil, List, [], ◌∷◌, ◌++◌, length, map, refl, sym, ap, subst, Option, None, Some, Bool, true, false, arith}
+use Rattle.std.proofs.Common.{◌≡◌, ℕ, ◌+◌, ◌<◌, ◌≤◌, nat_lt, not, cond, List, [], ◌∷◌, ◌++◌, length, All, refl, sym, Option, None, Some, Bool, true, false, arith}
 use Rattle.etp_io.specs.Texts.{LineText, whole, too_long}
 use Rattle.std.specs.Prelude.{IsSome, position, slice_get, if◌then◌else◌}
 use Rattle.std.specs.List.{position_or_len}
-use Rattle.std.proofs.lemmas.List.Elements.{All-head, All-tail}
+use Rattle.std.proofs.lemmas.List.Elements.{All-nil, All-cons, All-head, All-tail, All-weaker}
 use Rattle.std.proofs.Common.{get_or}
 use Rattle.std.proofs.Common.{◌-◌}
 use Rattle.std.proofs.lemmas.Bool.{lt-ltb, le-ltb}
@@ -13,7 +13,7 @@ use Rattle.etp_theory.specs.Trees.{Equation}
 use Rattle.etp_laws.proofs.Entries.{entry_after}
 use Rattle.etp_theory.specs.Numbered.{law_numbered, IsLaw}
 use Rattle.etp_words.specs.Words.{words_of, are_blank}
-use Rattle.etp_items.specs.Bodies.{FileBody, proof}
+use Rattle.etp_items.specs.Bodies.{FileBody, table, proof, model}
 use Rattle.etp_items.specs.Reading.{IsBody, IsReadBody}
 use Rattle.etp_items.proofs.Writable.{body_writable}
 use Rattle.etp_items.proofs.ReadAgain.{listed_numbers}
@@ -123,6 +123,8 @@ placed-stands name files k h = by (body_named name files) refl
 -- lines that are a body have what its check requires
 pub body-content : (lines : List LineText) (b : FileBody) → IsBody lines b → HasContent b
 body-content lines (proof p) h = (body_writable lines (proof p) h).0
+body-content lines (model (table size entries) claims) h =
+    let w = (body_writable lines (model (table size entries) claims) h).0 in (w.0, w.2)
 
 entry-there : (laws : List Equation) (n : ℕ) → 1 ≤ n → n ≤ length laws → IsSome (law_numbered laws n)
 entry-there laws n h k =
@@ -140,3 +142,15 @@ body-listed laws count lines closed (proof p) e h =
       hypothesis_listed = entry-there laws p.hypothesis hypothesis.from_one (rw (sym e) hypothesis.to_last);
       goal_listed = entry-there laws p.goal goal.from_one (rw (sym e) goal.to_last);
     }
+body-listed laws count lines closed (model m claims) e h =
+    let listed = front_of claims.holds claims.fails (listed_numbers count lines closed (model m claims) h) in
+    record { holds_listed = All-weaker (IsLaw count) (λ n. IsSome (law_numbered laws n)) there claims.holds listed.0; fails_listed = All-weaker (IsLaw count) (λ n. IsSome (law_numbered laws n)) there claims.fails listed.1 }
+  where
+    there : (n : ℕ) → IsLaw count n → IsSome (law_numbered laws n)
+    there n h = entry-there laws n h.from_one (rw (sym e) h.to_last)
+
+    front_of : (xs ys : List ℕ) → All (IsLaw count) (xs ++ ys) → All (IsLaw count) xs × All (IsLaw count) ys
+    front_of [] ys h = (All-nil (IsLaw count), h)
+    front_of (x ∷ xs) ys h =
+        let on = front_of xs ys (All-tail (IsLaw count) x (xs ++ ys) h) in
+        (All-cons (IsLaw count) x xs (All-head (IsLaw count) x (xs ++ ys) h) on.0, on.1)

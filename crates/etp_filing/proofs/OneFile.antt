@@ -19,7 +19,7 @@ use Rattle.etp_ledger.specs.declared.refusal.LedgerRefusal.TheVariants.{NoMemory
 use Rattle.etp_ledger.proofs.Verdicts as Verdict
 use Rattle.etp_print.specs.Texts.{Reply, answered, refused, refused_file}
 use Rattle.etp_print.specs.RefusalTexts.{body_refusal, file_refusal}
-use Rattle.etp_desk.specs.States.{Opened, Filing, State, over, filing}
+use Rattle.etp_desk.specs.States.{Opened, Filing, State, over}
 use Rattle.etp_filing.specs.FileReplies.{FileReply, no_name, name_taken, not_built, no_body, not_accepted, accepted, BodyReply, goes_on, closes, HasNoName, HasFreeName, accepted_line}
 use Rattle.etp_filing.specs.Withdrawals.{WithdrawReply, no_name as no_such_word, unknown_name, cited, withdrawn}
 

@@ -31,7 +31,7 @@ closes_body (whole line) = is_end (words_of line)
 
 -- the first words of the bodies of kinds that aren't built yet
 abbrev pub unbuilt_kinds : List (List ℕ)
-unbuilt_kinds = codes "table" ∷ codes "linear" ∷ codes "rules" ∷ []
+unbuilt_kinds = codes "linear" ∷ codes "rules" ∷ []
 
 abbrev pub begins_unbuilt : List (List ℕ) → Bool
 begins_unbuilt [] = false
@@ -62,11 +62,15 @@ pub record HasFreeName (files : List File) (word : Option (List ℕ)) (name : Li
 
 -- what an accepted file says
 abbrev pub said_text : Fact → List ℕ
-said_text (implies hypothesis goal) = codes "implies " ++ decimal hypothesis ++ codes " " ++ decimal goal
-said_text (refutes holds fails) = codes "refutes " ++ decimal (length holds) ++ codes " " ++ decimal (length fails)
+said_text (implies hypothesis goal) = codes "implies" ++ codes " " ++ decimal hypothesis ++ codes " " ++ decimal goal
+said_text (refutes holds fails) = codes "refutes" ++ codes " " ++ decimal (length holds) ++ codes " " ++ decimal (length fails)
+
+-- the line of an accepted file with these words of what it says
+abbrev pub accepted_with : List ℕ → List ℕ → List ℕ
+accepted_with name said = codes "accepted " ++ name ++ codes ": " ++ said ++ 10 ∷ []
 
 abbrev pub accepted_line : List ℕ → Fact → List ℕ
-accepted_line name fact = codes "accepted " ++ name ++ codes ": " ++ said_text fact ++ 10 ∷ []
+accepted_line name fact = accepted_with name (said_text fact)
 
 -- The reply to a file whose body lines are over, and the files that stand then. `closed`: by `end`.
 pub data FileReply (o : Opened) (f : Filing) (closed : Bool) (reply : Reply) (after : List File) : Type 0 where

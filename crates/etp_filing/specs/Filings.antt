@@ -1,7 +1,6 @@
 -- A file whose body is being read, as the program keeps it, and what the parts of its handling give.
-use Rattle.std.specs.Prelude.{◌≡◌, ℕ, List, [], ◌∷◌, ◌++◌, Bool, true, false, length, if◌then◌else◌, Some}
+use Rattle.std.specs.Prelude.{◌≡◌, ℕ, List, [], ◌∷◌, ◌++◌, Bool, true, false, codes, decimal, length, if◌then◌else◌, Some}
 use Rattle.etp_io.specs.Texts.{LineText, whole, too_long}
-use Rattle.etp_theory.specs.Reach.{Fact, implies}
 use Rattle.etp_proof.specs.Names.{IsName}
 use Rattle.etp_words.specs.Words.{words_of, are_blank}
 use Rattle.etp_items.specs.Work.{HasRead}
@@ -17,6 +16,7 @@ use Rattle.etp_filing.specs.declared.filing.Pending.TheVariants as Kept
 use Rattle.etp_filing.specs.declared.filing.Begins.{Begins}
 use Rattle.etp_filing.specs.declared.filing.Begins.TheVariants.{Blank, NotBuilt, Other}
 use Rattle.etp_filing.specs.declared.accepting.Said.{Said}
+use Rattle.etp_filing.specs.declared.accepting.Said.TheVariants.{Implies, Refutes}
 
 -- what is known of a file whose lines are read
 pub record IsReading (o : Opened) (name : List ℕ) (reader : BodyReader) (g : States.Filing) : Type 0 where
@@ -49,9 +49,10 @@ with_line g line = record { number = g.number; word = g.word; lines = g.lines ++
 abbrev pub loading : ℕ → List ℕ → List LineText → States.Filing
 loading n word lines = record { number = n; word = Some word; lines = lines }
 
--- what a proof says
-abbrev pub fact_from : Said → Fact
-fact_from s = implies s.hypothesis s.goal
+-- the words of what a body says
+abbrev pub words_from : Said → List ℕ
+words_from (Implies hypothesis goal) = codes "implies" ++ codes " " ++ decimal hypothesis ++ codes " " ++ decimal goal
+words_from (Refutes holds fails) = codes "refutes" ++ codes " " ++ decimal holds ++ codes " " ++ decimal fails
 
 -- the reply to a file whose body is over has this text
 abbrev pub GivesFile : States.Opened → States.Filing → Bool → List ℕ → Bool → (List File → Type 0) → Type 0

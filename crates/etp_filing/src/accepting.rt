@@ -1,5 +1,5 @@
 // The reply to a file whose body is over.
-ghost use Rattle.std.specs.Prelude.{◌≡◌, ◌≢◌, ◌++◌, [], Bool, false, true, length, IfOk, OnOk, codes};
+ghost use Rattle.std.specs.Prelude.{◌≡◌, ◌≢◌, ◌++◌, [], Bool, false, true, length, IfOk, OnOk, codes, decimal};
 ghost use Rattle.etp_items.specs.Bodies.{body_of};
 ghost use Rattle.etp_items.specs.Reading.{IsReadBody};
 ghost use Rattle.etp_check.specs.Checks.{fact_said, IsListedBody, HasContent};
@@ -7,8 +7,8 @@ ghost use Rattle.etp_print.specs.Texts.{reply_text, refused_file};
 ghost use Rattle.etp_print.specs.RefusalTexts.{body_refusal, file_refusal};
 ghost use Rattle.etp_desk.specs.States.{Filing as FilingOf};
 ghost use Rattle.etp_desk.specs.Desks.{opened_of, Agrees, Leaves};
-ghost use Rattle.etp_filing.specs.FileReplies.{HasFreeName, names_unbuilt, accepted_line};
-ghost use Rattle.etp_filing.specs.Filings.{fact_from, IsReading, IsFiling, GivesFile};
+ghost use Rattle.etp_filing.specs.FileReplies.{HasFreeName, names_unbuilt, said_text, accepted_with};
+ghost use Rattle.etp_filing.specs.Filings.{words_from, IsReading, IsFiling, GivesFile};
 
 use crate::filing::{Filing, Pending};
 use etp_desk::Opened;
@@ -18,34 +18,57 @@ use etp_print::{body_refusal_text, file_refusal_text, refuse, refuse_file, refus
 use etp_text::Text;
 use std::alloc::{AllocError, Global};
 
-/// The laws of a proof.
+/// What a body states: that a law implies another, or how many laws hold and how many fail.
 #[derive(Clone, Copy)]
-pub(crate) struct Said {
-    hypothesis: u32,
-    goal: u32,
+pub(crate) enum Said {
+    Implies { hypothesis: u32, goal: u32 },
+    Refutes { holds: u32, fails: u32 },
 }
 
 fn laws_said(body: &Body) -> Said
-    ensures { fact_from result ≡ fact_said (body_of body.now) }
+    ensures { words_from result ≡ said_text (fact_said (body_of body.now)) }
 {
     match body {
-        Body::Proof(proof) => Said {
+        Body::Proof(proof) => Said::Implies {
             hypothesis: proof.hypothesis,
             goal: proof.goal,
         },
+        Body::Table(table) => Said::Refutes {
+            holds: table.claims.holds.len(),
+            fails: table.claims.fails.len(),
+        },
+    }
+}
+
+// Appends a word and two numbers.
+fn append_two(text: &mut Text, word: &[u8], first: u32, second: u32) -> Result<(), AllocError>
+    ensures { OnOk result (text.new ≡ text.old
+        ++ (word.now ++ codes " " ++ decimal first ++ codes " " ++ decimal second)) }
+{
+    text.append(word)?;
+    text.append(b" ")?;
+    text.append_number(u64::from(first))?;
+    text.append(b" ")?;
+    text.append_number(u64::from(second))
+}
+
+fn append_said(text: &mut Text, said: Said) -> Result<(), AllocError>
+    ensures { OnOk result (text.new ≡ text.old ++ words_from said) }
+{
+    match said {
+        Said::Implies { hypothesis, goal } => append_two(text, b"implies", hypothesis, goal),
+        Said::Refutes { holds, fails } => append_two(text, b"refutes", holds, fails),
     }
 }
 
 // What an accepted file says: its name, and what its body states.
 fn append_accepted(text: &mut Text, name: &[u8], said: Said) -> Result<(), AllocError>
-    ensures { OnOk result (text.new ≡ text.old ++ accepted_line name.now (fact_from said)) }
+    ensures { OnOk result (text.new ≡ text.old ++ accepted_with name.now (words_from said)) }
 {
     text.append(b"accepted ")?;
     text.append(name)?;
-    text.append(b": implies ")?;
-    text.append_number(u64::from(said.hypothesis))?;
-    text.append(b" ")?;
-    text.append_number(u64::from(said.goal))?;
+    text.append(b": ")?;
+    append_said(text, said)?;
     text.append(b"\n")
 }
 

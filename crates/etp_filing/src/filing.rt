@@ -70,7 +70,7 @@ fn beginning(line: Option<&[u8]>) -> Begins
 fn is_unbuilt_kind(word: &[u8]) -> bool
     ensures { result ≡ list_any (is_word word.now) unbuilt_kinds }
 {
-    is(word, "table") || is(word, "linear") || is(word, "rules")
+    is(word, "linear") || is(word, "rules")
 }
 
 /// Whether the line closes a body.

@@ -1,7 +1,7 @@
 use Rattle.std.proofs.Common.{refl}
 use Rattle.etp_items.specs.Bodies.{body_of}
 use Rattle.etp_check.specs.Checks.{fact_said}
-use Rattle.etp_filing.specs.Filings.{fact_from}
+use Rattle.etp_filing.specs.Filings.{words_from}
 use Rattle.etp_print.specs.Texts.{answered, refused_file}
 use Rattle.etp_print.specs.RefusalTexts.{file_refusal}
 use Rattle.etp_filing.specs.FileReplies.{accepted_line, not_accepted, accepted}
@@ -16,7 +16,7 @@ returns-in-Ok c closed g n free built read = record {
   files = c.accept.new.self.files;
   is = accepted c.args.name (body_of c.args.body) free built read c.in-Ok.ensures.ok refl c.in-Ok.ensures.files;
   stands = leaves c.args.opened.now _ c.requires.agrees refl c.in-Ok.ensures.order c.in-Ok.ensures.duals;
-  text_is = accepted-text c.args.text.now c.as_slice-in-Ok.result.now c.append.new.self c.empty-label.result c.as_slice.result.now c.args.name c.append_accepted.new.text (fact_from c.laws_said-said.result) (fact_said (body_of c.args.body))
+  text_is = accepted-text c.args.text.now c.as_slice-in-Ok.result.now c.append.new.self c.empty-label.result c.as_slice.result.now c.args.name c.append_accepted.new.text (words_from c.laws_said-said.result) (fact_said (body_of c.args.body))
       c.requires.empty c.as_slice-in-Ok.ensures c.in_ok-append.ensures.ok c.empty-label.ensures c.as_slice.ensures.value c.laws_said-said.ensures c.in_ok-append_accepted-in-Ok.ensures;
   refused_is = refl;
 }
