@@ -16,6 +16,8 @@ pub data Query : Type 0 where
   ask : ℕ → ℕ → Query
   files : Query
   counts : Query
+  -- the laws that hold in the table of the name that this word is to be
+  profile : List ℕ → Query
   not_built : Query
 
 pub data Request : Type 0 where
@@ -36,8 +38,7 @@ pub data Request : Type 0 where
 
 -- the words of queries that aren't built yet
 abbrev pub unbuilt : List (List ℕ)
-unbuilt = codes "why" ∷ codes "row" ∷ codes "class" ∷ codes "classes" ∷ codes "csv" ∷ codes "ledger"
-    ∷ codes "profile" ∷ []
+unbuilt = codes "why" ∷ codes "row" ∷ codes "class" ∷ codes "classes" ∷ codes "csv" ∷ codes "ledger" ∷ []
 
 -- the only word
 abbrev pub only_word : List (List ℕ) → Option (List ℕ)
@@ -78,7 +79,8 @@ query_of word text words =
     (if is_word word (codes "ask") then option_map (λ p. ask p.0 p.1) (only_pair words) else
     (if is_word word (codes "files") then lone_query files words else
     (if is_word word (codes "counts") then lone_query counts words else
-    (if list_any (is_word word) unbuilt then Some not_built else None))))))
+    (if is_word word (codes "profile") then option_map profile (only_word words) else
+    (if list_any (is_word word) unbuilt then Some not_built else None)))))))
 
 -- a line that is to be a query
 abbrev pub query_request : Option Query → Request

@@ -3,7 +3,7 @@ use Rattle.std.specs.Prelude.{ℕ, ◌≤◌, length}
 use Rattle.std.specs.Option.{option_copied}
 use Rattle.etp_command.specs.Requests as Requests
 use Rattle.etp_command.specs.declared.query.Query.{Query}
-use Rattle.etp_command.specs.declared.query.Query.TheVariants.{Law, Number, Dual, Ask, Files, Counts, NotBuilt}
+use Rattle.etp_command.specs.declared.query.Query.TheVariants.{Law, Number, Dual, Ask, Files, Counts, Profile, NotBuilt}
 use Rattle.etp_command.specs.declared.request.Request.{Request}
 use Rattle.etp_command.specs.declared.request.Request.TheVariants as Program
 use Rattle.etp_command.specs.declared.request.ListOrder.{ListOrder}
@@ -21,6 +21,7 @@ query_from (Dual n) = Requests.dual n
 query_from (Ask e f) = Requests.ask e f
 query_from Files = Requests.files
 query_from Counts = Requests.counts
+query_from (Profile word) = Requests.profile word.now
 query_from NotBuilt = Requests.not_built
 
 abbrev pub request_from : Request → Requests.Request

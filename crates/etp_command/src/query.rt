@@ -6,11 +6,12 @@ ghost use Rattle.etp_words.specs.Words.{skip_blanks, words_of, is_word};
 ghost use Rattle.etp_command.specs.Requests.{only_pair, number_query, lone_query, unbuilt, query_of};
 ghost use Rattle.etp_command.specs.Values.{query_from, IsQueryWithin};
 
-use crate::request::only_number;
+use crate::request::{only_number, only_word};
 use etp_words::{is, next_word, number_word, skip_blanks};
 
 /// What is asked of the laws, of the files that stand and of the answers; it changes none of them.
-/// The text of `number` is a part of the line.
+/// The text of `number` and the word of `profile`, which is to be the name of a table, are parts of
+/// the line.
 #[derive(Clone, Copy)]
 pub enum Query<'a> {
     Law(u32),
@@ -19,6 +20,7 @@ pub enum Query<'a> {
     Ask(u32, u32),
     Files,
     Counts,
+    Profile(&'a [u8]),
     NotBuilt,
 }
 
@@ -68,7 +70,6 @@ fn is_unbuilt(word: &[u8]) -> bool
         || is(word, "classes")
         || is(word, "csv")
         || is(word, "ledger")
-        || is(word, "profile")
 }
 
 /// Reads a query by its first word and what follows it.
@@ -94,6 +95,9 @@ pub(crate) fn read_query<'a>(word: &[u8], rest: &'a [u8]) -> Option<Query<'a>>
     }
     if is(word, "counts") {
         return lone_query(Query::Counts, rest);
+    }
+    if is(word, "profile") {
+        return Some(Query::Profile(only_word(rest)?));
     }
     if is_unbuilt(word) {
         return Some(Query::NotBuilt);
