@@ -1,0 +1,3 @@
+pub mod PlaceLemmas
+pub mod ProfileLemmas
+pub mod OneProfile
