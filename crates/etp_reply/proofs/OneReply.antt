@@ -4,9 +4,10 @@ use Rattle.etp_theory.specs.Numbered.{law_numbered}
 use Rattle.etp_laws.specs.Listing.{IsTheList}
 use Rattle.etp_io.specs.Texts.{LineText}
 use Rattle.etp_ledger.specs.Files.{File}
-use Rattle.etp_command.specs.Requests.{Query, law, number, dual, ask, files as all_files, counts, not_built as not_built_yet, Request, blank, long, bad, order, file, load, withdraw, query, asked}
+use Rattle.etp_command.specs.Requests.{Query, law, number, dual, ask, files as all_files, counts, profile, not_built as not_built_yet, Request, blank, long, bad, order, file, load, withdraw, query, asked}
 use Rattle.etp_print.specs.Texts.{Reply}
 use Rattle.etp_show.proofs.OneLaw.{number_reply-only, dual_reply-only}
+use Rattle.etp_profile.proofs.OneProfile.{profile_reply-only}
 use Rattle.etp_survey.proofs.OneAnswer.{ask_reply-only, counts_reply-only}
 use Rattle.etp_desk.specs.States.{Opened, Opens, Filing, State, unopened, over, filing, stopped}
 use Rattle.etp_desk.proofs.Opening.{opens-one}
@@ -25,6 +26,7 @@ query_reply-only o l (dual n) r s a b = dual_reply-only o.laws.order o.laws.equa
 query_reply-only o l (ask e f) r s a b = ask_reply-only o.laws o.files e f r s a b
 query_reply-only o l all_files r s a b = a ∙ sym b
 query_reply-only o l counts r s a b = counts_reply-only o.laws o.files r s a b
+query_reply-only o l (profile word) r s a b = profile_reply-only o.laws.order o.laws.equations o.files word r s a b
 query_reply-only o l not_built_yet r s a b = a ∙ sym b
 
 -- the state's list is the one of its order

@@ -4,10 +4,11 @@ use Rattle.std.specs.declared.option.Option.{Option}
 use Rattle.etp_theory.specs.Numbered.{law_numbered}
 use Rattle.etp_io.specs.Texts.{LineText}
 use Rattle.etp_ledger.specs.Files.{File}
-use Rattle.etp_command.specs.Requests.{Query, law, number, dual, ask, files, counts, not_built, Request, blank, long, bad, order, file, load, withdraw, query, asked}
+use Rattle.etp_command.specs.Requests.{Query, law, number, dual, ask, files, counts, profile, not_built, Request, blank, long, bad, order, file, load, withdraw, query, asked}
 use Rattle.etp_print.specs.Texts.{Reply, silent, answered, refused}
 use Rattle.etp_show.specs.LawReplies.{law_reply, NumberReply, DualReply}
 use Rattle.etp_show.specs.FileLists.{files_text}
+use Rattle.etp_profile.specs.ProfileReplies.{ProfileReply}
 use Rattle.etp_survey.specs.PairReplies.{AskReply, CountsReply}
 use Rattle.etp_desk.specs.States.{Opened, Opens, State, unopened, over, filing, stopped}
 use Rattle.etp_filing.specs.FileReplies.{BodyReply, FileReply, HasFreeName}
@@ -23,6 +24,7 @@ QueryReply o (dual n) reply = DualReply o.laws.equations n (law_numbered o.laws.
 QueryReply o (ask e f) reply = AskReply o.laws o.files e f reply
 QueryReply o files reply = reply ≡ answered (files_text o.files)
 QueryReply o counts reply = CountsReply o.laws o.files reply
+QueryReply o (profile word) reply = ProfileReply o.laws.order o.laws.equations o.files word reply
 QueryReply o not_built reply = reply ≡ refused (codes "not built")
 
 -- The reply to line n, which loads a file. The shelf is reached only where the word is a name and is

@@ -8,6 +8,7 @@ ghost use Rattle.etp_reply.specs.Replies.{QueryReply};
 use etp_command::Query;
 use etp_desk::Opened;
 use etp_print::refuse;
+use etp_profile::answer_profile;
 use etp_show::{answer_dual, answer_files, answer_law, answer_number};
 use etp_survey::{answer_counts, answer_pair};
 use etp_text::Text;
@@ -35,6 +36,7 @@ pub(crate) fn answer_query(
         Query::Ask(e, f) => answer_pair(text, ledger, e, f, line),
         Query::Files => answer_files(text, ledger, line),
         Query::Counts => answer_counts(text, ledger, line),
+        Query::Profile(word) => answer_profile(alloc, text, laws, ledger, word, line),
         Query::NotBuilt => refuse(text, line, b"not built"),
     }
 }

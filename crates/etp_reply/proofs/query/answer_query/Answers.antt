@@ -14,5 +14,8 @@ returns-in-Files c = rw c.in-Files.is c.answer_files.ensures
 pub returns-in-Counts : goal.returns-in-Counts
 returns-in-Counts c = rw c.in-Counts.is (IfOk-then c.answer_counts.result _ _ (λ flag h. h c.args.opened.now.laws c.requires.agrees) c.answer_counts.ensures)
 
+pub returns-in-Profile : goal.returns-in-Profile
+returns-in-Profile c = rw c.in-Profile.is c.answer_profile.ensures
+
 pub returns-in-NotBuilt : goal.returns-in-NotBuilt
 returns-in-NotBuilt c = IfOk-then c.refuse.result _ _ (λ flag h. gives-refused c.args.line c.refuse.new.text _ flag _ (rw c.in-NotBuilt.is refl) h) c.refuse.ensures
