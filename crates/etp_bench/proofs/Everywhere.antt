@@ -2,7 +2,7 @@
 use Rattle.std.proofs.Common.{◌+◌, ◌↔◌, ℕ, List, [], ◌∷◌, ◌++◌, Contains, subst, sym, inl, inr, arith}
 use Rattle.std.proofs.lemmas.Bool.{cases_eq}
 use Rattle.std.proofs.lemmas.List.Elements.{Contains-push, Contains-append_left}
-use Rattle.etp_theory.specs.Numbered.{IsLaw}
+use Rattle.etp_theory.specs.LawNumbers.{IsLaw}
 use Rattle.etp_closure.specs.Closures.{IsKept, IsReserved, in_first}
 
 -- a list of the laws 1 to n, and one law more

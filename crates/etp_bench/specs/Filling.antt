@@ -2,7 +2,7 @@
 use Rattle.std.specs.Prelude.{ℕ, zero, suc, ◌+◌, Bool, length}
 use Rattle.etp_theory.specs.Reach.{Fact, implies}
 use Rattle.etp_bits.specs.Counts.{count_below}
-use Rattle.etp_theory.specs.Numbered.{IsLaw}
+use Rattle.etp_theory.specs.LawNumbers.{IsLaw}
 use Rattle.etp_closure.specs.Closures.{Known, IsKept}
 use Rattle.etp_bench.specs.declared.draws.Implication.{Implication}
 

@@ -1,6 +1,6 @@
 // Laws drawn by a linear congruential generator.
 ghost use Rattle.std.specs.Prelude.{◌≡◌, ◌<◌, ◌+◌, ◌*◌, ◌%◌, All, IfOk, vec_len};
-ghost use Rattle.etp_theory.specs.Numbered.{IsLaw};
+ghost use Rattle.etp_theory.specs.LawNumbers.{IsLaw};
 ghost use Rattle.etp_bench.specs.Filling.{IsBetweenLaws};
 
 use std::alloc::{AllocError, Global};

@@ -1,7 +1,7 @@
 // A closure that keeps every law, and facts added to it.
 ghost use Rattle.std.specs.Prelude.{◌≡◌, ◌++◌, [], ℕ, ◌↔◌, All, IfOk, Contains, List, map, length};
 ghost use Rattle.etp_theory.specs.Reach.{Fact};
-ghost use Rattle.etp_theory.specs.Numbered.{IsLaw};
+ghost use Rattle.etp_theory.specs.LawNumbers.{IsLaw};
 ghost use Rattle.etp_closure.specs.Closures.{StandsFor};
 ghost use Rattle.etp_bench.specs.Filling.{IsFull, IsBetweenLaws, fact_of};
 

@@ -8,7 +8,7 @@ mod filling;
 mod words;
 
 ghost use Rattle.std.specs.Prelude.{◌≡◌, All, length};
-ghost use Rattle.etp_theory.specs.Numbered.{IsLaw};
+ghost use Rattle.etp_theory.specs.LawNumbers.{IsLaw};
 ghost use Rattle.etp_bench.specs.Filling.{IsFull, IsBetweenLaws};
 
 use counts::totals;

@@ -3,7 +3,7 @@ use Rattle.std.proofs.Common.{◌≡◌, ◌≢◌, ℕ, zero, suc, ◌<◌, ◌
 use Rattle.std.proofs.lemmas.Bool.{cases_lt, cases_eq, eq-eqb, ne_eqb, lt-ltb, le-ltb}
 use Rattle.etp_bits.specs.Bits.{Bits, bit}
 use Rattle.etp_bits.specs.Counts.{count_below}
-use Rattle.etp_theory.specs.Numbered.{IsLaw}
+use Rattle.etp_theory.specs.LawNumbers.{IsLaw}
 use Rattle.etp_closure.specs.Closures.{slot_of, is_reached, is_covered, bit_by_slots}
 use Rattle.etp_closure.specs.Tables.{IsOneToOne}
 use Rattle.etp_closure.proofs.SlotLemmas.{slot_in}

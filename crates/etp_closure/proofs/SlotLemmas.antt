@@ -1,8 +1,8 @@
--- Laws of the slots of kept laws.
+-- Lemmas of the slots of kept laws.
 use Rattle.std.proofs.Common.{◌≡◌, ◌≢◌, ℕ, zero, suc, ◌<◌, ◌≤◌, ◌+◌, ◌-◌, ◌↔◌, List, [], ◌∷◌, ◌++◌, length, get_or, set, take, Option, Some, None, IsSome, Contains, All, refl, sym, ap, ◌∙◌, subst, ◌⊎◌, inl, inr, arith, get_or-set_same, get_or-set_other, add-one}
 use Rattle.std.proofs.lemmas.Bool.{cases_lt, cases_eq}
 use Rattle.std.proofs.lemmas.List.{get_or_append_left, get_or_push, length_push, get_or_past, ext_get_or, length-set, length-take-le, get_or-take, get_or_default}
-use Rattle.etp_theory.specs.Numbered.{IsLaw, IsOwnInverse, dual_number}
+use Rattle.etp_theory.specs.LawNumbers.{IsLaw, IsOwnInverse, dual_number}
 use Rattle.etp_closure.specs.Closures.{slot_of, slot_from, IsKept, IsReserved, kept_before, in_first, in_second, dual_in_first, dual_in_second}
 use Rattle.etp_closure.specs.Tables.{IsOneToOne, Extends, IsNamed, listed, dual_listed}
 

@@ -2,7 +2,7 @@
 use Rattle.std.proofs.Common.{◌≡◌, ℕ, List, [], ◌∷◌, ◌++◌, Contains, All, IsTrue, Bool, false, nat_eq, arith, ◌&&◌, ◌||◌, sym, ◌∙◌, subst, inl, inr, ◌↔◌}
 use Rattle.std.specs.List.{list_any}
 use Rattle.std.proofs.lemmas.Bool.{eqb-true, eq-eqb}
-use Rattle.etp_theory.specs.Numbered.{dual_number}
+use Rattle.etp_theory.specs.LawNumbers.{dual_number}
 use Rattle.etp_theory.specs.Reach.{Fact, implies, refutes, RefutingPair, Reach, itself, Covers}
 use Rattle.etp_closure.specs.Closures.{Known, IsKept, HasKeptLaws, is_reached, is_covered, StandsFor}
 use Rattle.etp_closure.specs.Tables.{Links}

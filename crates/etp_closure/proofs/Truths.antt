@@ -5,7 +5,7 @@ use Rattle.std.proofs.lemmas.List.{get_or-replicate, get_or_past, length-replica
 use Rattle.std.proofs.lemmas.Bool.{cases_lt, cases_eq, eqb-true, eq-eqb, ne_eqb, lt-ltb, le-leb, lt-leb, false_from_ne_true, and_right, and_parts, ltb-true, or_cases, or_left, or_right, and_from}
 use Rattle.etp_theory.specs.Reach.{Fact}
 use Rattle.etp_bits.specs.Bits.{Bits, bit, SameSizes}
-use Rattle.etp_theory.specs.Numbered.{IsLaw, IsOwnInverse, dual_number}
+use Rattle.etp_theory.specs.LawNumbers.{IsLaw, IsOwnInverse, dual_number}
 use Rattle.etp_closure.specs.Closures.{Known, StandsFor, SameAnswers, KeepsSlots, IsReserved, slot_of, slot_from, IsKept, is_reached, is_covered, bit_by_slots}
 use Rattle.etp_closure.proofs.Standing.{stands_empty, stands_same}
 use Rattle.etp_closure.specs.Tables.{IsOneToOne, Extends, IsClosure, IsSquare, IsMarks, IsTurned, MarksUncovered, Links, anew, covered_along, row_of, image_of}

@@ -1,7 +1,7 @@
 -- What callers see of a closure, and for which lists of facts it stands.
 use Rattle.std.specs.Prelude.{◌≡◌, ℕ, zero, suc, ◌↔◌, List, Contains, All, Option, Some, None, IsSome, IsTrue, Bool, false, nat_eq, slice_index}
 use Rattle.etp_bits.specs.Bits.{Bits, bit}
-use Rattle.etp_theory.specs.Numbered.{dual_number}
+use Rattle.etp_theory.specs.LawNumbers.{dual_number}
 use Rattle.etp_theory.specs.Reach.{Fact, implies, refutes, Reach, Covers}
 
 -- the list of duals, for each law from 1 on one more than its slot, or 0 where it isn't kept,

@@ -1,7 +1,7 @@
 -- What the loops over rows of reached and covered pairs keep.
 use Rattle.std.specs.Prelude.{◌≡◌, ℕ, ◌≤◌, ◌<◌, true, false, Bool, not, ◌&&◌, ◌||◌, ◌^◌, List, Contains, slice_index, length, Option, Some, None, unwrap_or, if◌then◌else◌, ◌⊎◌}
 use Rattle.etp_bits.specs.Bits.{Bits, bit}
-use Rattle.etp_theory.specs.Numbered.{IsOwnInverse, dual_number}
+use Rattle.etp_theory.specs.LawNumbers.{IsOwnInverse, dual_number}
 use Rattle.etp_closure.specs.Closures.{slot_of, IsKept}
 
 -- a row and a column for each of `count` laws, and no more

@@ -3,7 +3,7 @@ ghost use Rattle.std.specs.List.{list_any};
 ghost use Rattle.etp_theory.specs.Reach.{Fact as FactOf, implies, refutes};
 ghost use Rattle.etp_bits.specs.Bits.{SameSizes};
 ghost use Rattle.etp_bits.specs.Counts.{count_below};
-ghost use Rattle.etp_theory.specs.Numbered.{IsLaw, IsOwnInverse, dual_number};
+ghost use Rattle.etp_theory.specs.LawNumbers.{IsLaw, IsOwnInverse, dual_number};
 ghost use Rattle.etp_closure.specs.Closures.{IsKept, slot_of, is_reached, is_covered, SameAnswers, StandsFor, IsReserved, KeepsSlots};
 ghost use Rattle.etp_closure.specs.Answers.{answer_of, Says};
 ghost use Rattle.etp_closure.specs.Tables.{Links, image_of};

@@ -1,6 +1,6 @@
 // The slots of the laws that are kept: for each law one more than its slot, or 0.
 ghost use Rattle.std.specs.Prelude.{◌≡◌, ℕ, ◌+◌, ◌<◌, ◌≤◌, ◌^◌, ◌⊎◌, ◌↔◌, All, OnOk, OnErr, Some, length, vec_len, take, slice_index};
-ghost use Rattle.etp_theory.specs.Numbered.{IsLaw, dual_number};
+ghost use Rattle.etp_theory.specs.LawNumbers.{IsLaw, dual_number};
 ghost use Rattle.etp_closure.specs.Closures.{IsKept, slot_of, IsReserved};
 ghost use Rattle.etp_closure.specs.Tables.{IsOneToOne, Extends, IsNamed};
 

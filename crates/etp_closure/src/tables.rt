@@ -2,7 +2,7 @@
 ghost use Rattle.std.specs.Prelude.{◌≡◌, ◌≢◌, ℕ, ◌<◌, ◌≤◌, true, false, ◌&&◌, ◌||◌, nat_eq, nat_lt, nat_le, if◌then◌else◌, is_ok, All, Some, IfSome, length};
 ghost use Rattle.etp_bits.specs.Bits.{bit, SameSizes};
 ghost use Rattle.std.specs.List.{list_any};
-ghost use Rattle.etp_theory.specs.Numbered.{IsLaw};
+ghost use Rattle.etp_theory.specs.LawNumbers.{IsLaw};
 ghost use Rattle.etp_closure.specs.Closures.{IsKept, slot_of, bit_by_slots};
 ghost use Rattle.etp_closure.specs.Tables.{IsSquare, IsMarks, IsTurned, IsClosed, MarksEdge, MarksLaw, MarksUncovered, moved_along, reached_from, image_of, row_of};
 

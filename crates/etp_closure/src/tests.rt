@@ -1,5 +1,5 @@
 ghost use Rattle.std.specs.Prelude.{◌≡◌, ◌≤◌, IsTrue, OnErr, length};
-ghost use Rattle.etp_theory.specs.Numbered.{IsLaw, IsOwnInverse};
+ghost use Rattle.etp_theory.specs.LawNumbers.{IsLaw, IsOwnInverse};
 
 mod plain;
 

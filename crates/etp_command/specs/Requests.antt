@@ -5,7 +5,7 @@ use Rattle.std.specs.Option.{option_map}
 use Rattle.std.specs.List.{list_any}
 use Rattle.etp_io.specs.Texts.{LineText, whole, too_long}
 use Rattle.etp_words.specs.Words.{words_of, behind_first, is_word, is_comment}
-use Rattle.etp_words.specs.Numbers.{number_of}
+use Rattle.etp_words.specs.Numbers.{number_said}
 
 -- what is asked of the laws, of the files that stand and of the answers; it changes none of them
 pub data Query : Type 0 where
@@ -47,7 +47,7 @@ only_word _ = None
 
 -- the number that is the only word
 abbrev pub only_number : List (List ℕ) → Option ℕ
-only_number (word ∷ []) = number_of word
+only_number (word ∷ []) = number_said word
 only_number _ = None
 
 -- two numbers, where both stand
@@ -57,7 +57,7 @@ both _ _ = None
 
 -- two numbers that are the only words
 abbrev pub only_pair : List (List ℕ) → Option (ℕ × ℕ)
-only_pair (first ∷ second ∷ []) = both (number_of first) (number_of second)
+only_pair (first ∷ second ∷ []) = both (number_said first) (number_said second)
 only_pair _ = None
 
 -- `number` and a text, which is the rest of the line

@@ -1,7 +1,7 @@
 -- What stands in a session stays or changes with its files; a session opens one list.
 use Rattle.std.proofs.Common.{◌≡◌, ℕ, suc, ◌-◌, ◌<◌, List, [], ◌∷◌, length, slice_index, refl, sym, ◌∙◌, ap, subst, Option, Some, arith}
 use Rattle.etp_theory.specs.Trees.{Equation, law_dual}
-use Rattle.etp_theory.specs.Numbered.{dual_number}
+use Rattle.etp_theory.specs.LawNumbers.{dual_number}
 use Rattle.etp_laws.specs.Listing.{IsTheList}
 use Rattle.etp_laws.specs.LawLists.{LawList, IsNumberOf, AreDuals, IsDualOf}
 use Rattle.etp_laws.proofs.DualNumbers.{one_number_of}

@@ -4,7 +4,7 @@ use Rattle.etp_theory.specs.Trees.{Tree, bound}
 use Rattle.etp_theory.specs.Magmas.{meaning, IsClosed, Holds}
 use Rattle.etp_forms.specs.Forms.{Affine, coefficient, constant, sum_to, only, IsLinear, Generate, HaveOneForm}
 
-pub record FormLaws (A : Type 0) : Type 0 where
+pub record FormTheorems (A : Type 0) : Type 0 where
   pub closed : (inside : A → Bool) (times : A → A → A) (f : Affine A) → IsLinear inside times f
       → IsClosed inside times
   -- the value of a term is the value of its form

@@ -3,11 +3,11 @@
 #![tactic(auto)]
 
 ghost use Rattle.std.specs.Prelude.{ℕ, ℤ, List};
-ghost use Rattle.etp_forms.specs.Theorems.{FormLaws};
+ghost use Rattle.etp_forms.specs.Theorems.{FormTheorems};
 
 /// A term's value is that of its linear form, and a law holds exactly where both sides have one form;
 /// here over integers and over lists of numbers, as a clause can't range over types.
-pub fn form_laws()
-    ensures integers { FormLaws ℤ }
-    ensures vectors { FormLaws (List ℕ) }
+pub fn form_theorems()
+    ensures integers { FormTheorems ℤ }
+    ensures vectors { FormTheorems (List ℕ) }
 {}

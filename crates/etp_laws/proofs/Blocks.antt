@@ -10,7 +10,7 @@ use Rattle.std.specs.declared.cmp.Ordering.{Ordering}
 use Rattle.std.specs.declared.cmp.Ordering.TheVariants.{Less, Equal, Greater}
 use Rattle.etp_theory.specs.Trees.{Shape, leaf, fork, shape_of, shape_leaves, shape_ops, ops, word_of, law_word, law_ops, exchanged}
 use Rattle.etp_theory.specs.Orders.{shape_cmp}
-use Rattle.etp_laws.specs.Numbering.{numbered}
+use Rattle.etp_laws.specs.Occurrences.{by_occurrence}
 use Rattle.etp_laws.specs.Enumeration.{filled, words, pairs_from, shapes, same_tree, is_first_reading, is_listed, is_kept, law_at, laws_at, laws_of, laws_upto}
 use Rattle.etp_term.proofs.Shapes.{shape_cmp-equal, shape_ops-shape_of}
 use Rattle.etp_laws.proofs.Canonical.{cases_Ordering}
@@ -87,7 +87,7 @@ kept_at s w e long =
     let turned : law_word (exchanged (law_at s w)) ≡ drop m w ++ take m w = λ i. word_of-filled s.1 (drop m w) back' i ++ word_of-filled s.0 (take m w) front i in
     let sides : same_tree (law_at s w).left (law_at s w).right ≡ bytes_eq (take m w) (drop m w) = ap (λ t. same_tree (filled s.0 (take m w)) (filled t (drop m w))) (sym e) ∙ same_sides s.0 (take m w) (drop m w) front back in
     let number : (law_ops (law_at s w) == 0) ≡ (m == 1) = no_operations (shape_ops s.0) (shape_ops s.1) m (law_ops (law_at s w)) (λ i. ops-filled s.0 (take m w) i + ops-filled s.1 (drop m w) i) (shape_leaves-ops s.0) (ap shape_ops e) in
-    (λ i. not (is_gt (slice_cmp nat_cmp (law_word-law_at s w long i) (numbered (turned i)))) && (not (sides i) || number i))
+    (λ i. not (is_gt (slice_cmp nat_cmp (law_word-law_at s w long i) (by_occurrence (turned i)))) && (not (sides i) || number i))
 
 pub laws_at-equal : (s : Shape × Shape) → shape_cmp s.0 s.1 ≡ Equal → laws_at s ≡ map (law_at s) (filter (is_kept (shape_leaves s.0)) (words (shape_leaves s.0 + shape_leaves s.1) 0))
 laws_at-equal s e =

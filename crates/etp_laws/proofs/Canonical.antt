@@ -11,10 +11,10 @@ use Rattle.etp_theory.specs.Orders.{shape_cmp, law_cmp}
 use Rattle.etp_theory.specs.Sameness.{IsInjective, Same}
 use Rattle.etp_theory.specs.Trees.{Tree, var, op, Shape, fork, Equation, shape_of, word_of, law_word, shape_ops, ops, law_ops, renamed, law_renamed, exchanged}
 use Rattle.etp_laws.specs.Listing.{Listed}
-use Rattle.etp_laws.specs.Numbering.{numbered}
+use Rattle.etp_laws.specs.Occurrences.{by_occurrence}
 use Rattle.etp_laws.specs.Canonical.{IsCanonical}
 use Rattle.etp_term.proofs.Shapes.{shape_total, shape_cmp-equal, shape_ops-shape_of}
-use Rattle.etp_laws.proofs.Numbers.{numbered_by, numbered_least, numbered-map}
+use Rattle.etp_laws.proofs.Occurrences.{renaming_by_occurrence, by_occurrence_least, by_occurrence-map}
 
 pub cases_Ordering : (o : Ordering) → (o ≡ Less) ⊎ ((o ≡ Equal) ⊎ (o ≡ Greater))
 cases_Ordering Less = inl refl
@@ -86,8 +86,8 @@ not_below : (xs ys : List ℕ) → is_gt (slice_cmp nat_cmp ys xs) ≡ false →
 not_below xs ys h e = true≢false (sym (ap is_gt (nat_list_cmp_total.antisymm ys xs ∙ ap ordering_reverse e)) ∙ h)
 
 -- a word that is numbered is not greater than any renaming of it
-pub numbered_below : (f : ℕ → ℕ) → IsInjective f → (w : List ℕ) → is_gt (slice_cmp nat_cmp (numbered w) (map f w)) ≡ false
-numbered_below f inj w = subst (λ x. is_gt (slice_cmp nat_cmp x (map f w)) ≡ false) (numbered-map f inj w) (numbered_least (map f w))
+pub by_occurrence_below : (f : ℕ → ℕ) → IsInjective f → (w : List ℕ) → is_gt (slice_cmp nat_cmp (by_occurrence w) (map f w)) ≡ false
+by_occurrence_below f inj w = subst (λ x. is_gt (slice_cmp nat_cmp x (map f w)) ≡ false) (by_occurrence-map f inj w) (by_occurrence_least (map f w))
 
 -- the law that an earlier one would be
 earlier_exchanged : (p q : Equation) → shape_of q.left ≡ shape_of p.right → shape_of q.right ≡ shape_of p.left → law_cmp q p ≡ ordering_then (shape_cmp (shape_of p.right) (shape_of p.left)) (ordering_then (shape_cmp (shape_of p.left) (shape_of p.right)) (slice_cmp nat_cmp (law_word q) (law_word p)))
@@ -101,16 +101,16 @@ earlier_exchanged p q e h =
 
 pub canonical_from_listed : (p : Equation) → Listed p → IsCanonical p
 canonical_from_listed p listed = record {
-  by_occurrence = occurs (less_or_same (numbered (law_word p)) (law_word p) (numbered_least (law_word p)));
+  occurrences = occurs (less_or_same (by_occurrence (law_word p)) (law_word p) (by_occurrence_least (law_word p)));
   shapes = ordered (cases_Ordering (shape_cmp (shape_of p.left) (shape_of p.right)));
-  words = λ e. least e (cases_Ordering (slice_cmp nat_cmp (law_word p) (numbered (law_word (exchanged p)))));
+  words = λ e. least e (cases_Ordering (slice_cmp nat_cmp (law_word p) (by_occurrence (law_word (exchanged p)))));
   sides = listed.sides;
 }
   where
-    occurs : ((slice_cmp nat_cmp (numbered (law_word p)) (law_word p) ≡ Less) ⊎ (numbered (law_word p) ≡ law_word p)) → numbered (law_word p) ≡ law_word p
+    occurs : ((slice_cmp nat_cmp (by_occurrence (law_word p)) (law_word p) ≡ Less) ⊎ (by_occurrence (law_word p) ≡ law_word p)) → by_occurrence (law_word p) ≡ law_word p
     occurs (inr e) = e
     occurs (inl e) =
-        let n = numbered_by (law_word p) in
+        let n = renaming_by_occurrence (law_word p) in
         let q = law_renamed n.to p in
         let w = law_word-renamed n.to p ∙ n.is in
         absurd (listed.first q
@@ -125,15 +125,15 @@ canonical_from_listed p listed = record {
         (earlier_exchanged p (exchanged p) refl refl ∙ ap (λ o. ordering_then o (ordering_then (shape_cmp (shape_of p.left) (shape_of p.right)) (slice_cmp nat_cmp (law_word (exchanged p)) (law_word p)))) (shape_total.antisymm (shape_of p.right) (shape_of p.left) ∙ ap ordering_reverse e))
         ((λ x. x), (λ x y e. e), inr (λ i. record { left = renamed-same p.left i; right = renamed-same p.right i })))
 
-    least : shape_of p.left ≡ shape_of p.right → ((slice_cmp nat_cmp (law_word p) (numbered (law_word (exchanged p))) ≡ Less) ⊎ ((slice_cmp nat_cmp (law_word p) (numbered (law_word (exchanged p))) ≡ Equal) ⊎ (slice_cmp nat_cmp (law_word p) (numbered (law_word (exchanged p))) ≡ Greater))) → is_gt (slice_cmp nat_cmp (law_word p) (numbered (law_word (exchanged p)))) ≡ false
+    least : shape_of p.left ≡ shape_of p.right → ((slice_cmp nat_cmp (law_word p) (by_occurrence (law_word (exchanged p))) ≡ Less) ⊎ ((slice_cmp nat_cmp (law_word p) (by_occurrence (law_word (exchanged p))) ≡ Equal) ⊎ (slice_cmp nat_cmp (law_word p) (by_occurrence (law_word (exchanged p))) ≡ Greater))) → is_gt (slice_cmp nat_cmp (law_word p) (by_occurrence (law_word (exchanged p)))) ≡ false
     least s (inl e) = ap is_gt e
     least s (inr (inl e)) = ap is_gt e
     least s (inr (inr e)) =
-        let n = numbered_by (law_word (exchanged p)) in
+        let n = renaming_by_occurrence (law_word (exchanged p)) in
         let q = law_renamed n.to (exchanged p) in
         let w = law_word-renamed n.to (exchanged p) ∙ n.is in
         absurd (listed.first q
-        (law_cmp-word q p (shape_of-renamed n.to p.right ∙ sym s) (shape_of-renamed n.to p.left ∙ s) ∙ ap (λ x. slice_cmp nat_cmp x (law_word p)) w ∙ nat_list_cmp_total.antisymm (numbered (law_word (exchanged p))) (law_word p) ∙ ap ordering_reverse e)
+        (law_cmp-word q p (shape_of-renamed n.to p.right ∙ sym s) (shape_of-renamed n.to p.left ∙ s) ∙ ap (λ x. slice_cmp nat_cmp x (law_word p)) w ∙ nat_list_cmp_total.antisymm (by_occurrence (law_word (exchanged p))) (law_word p) ∙ ap ordering_reverse e)
         (n.to, n.injective, inr refl))
 
 pub listed_from_canonical : (p : Equation) → IsCanonical p → Listed p
@@ -142,7 +142,7 @@ listed_from_canonical p c = record { sides = c.sides; first = none }
     plain : (f : ℕ → ℕ) → IsInjective f → law_cmp (law_renamed f p) p ≡ Less → ⊥
     plain f inj e =
         not_below (map f (law_word p)) (law_word p)
-        (subst (λ x. is_gt (slice_cmp nat_cmp x (map f (law_word p))) ≡ false) c.by_occurrence (numbered_below f inj (law_word p)))
+        (subst (λ x. is_gt (slice_cmp nat_cmp x (map f (law_word p))) ≡ false) c.occurrences (by_occurrence_below f inj (law_word p)))
         (ap (λ x. slice_cmp nat_cmp x (law_word p)) (sym (law_word-renamed f p)) ∙ sym (law_cmp-word (law_renamed f p) p (shape_of-renamed f p.left) (shape_of-renamed f p.right)) ∙ e)
 
     other : (f : ℕ → ℕ) → IsInjective f → law_cmp (law_renamed f (exchanged p)) p ≡ Less → ((shape_cmp (shape_of p.left) (shape_of p.right) ≡ Less) ⊎ ((shape_cmp (shape_of p.left) (shape_of p.right) ≡ Equal) ⊎ (shape_cmp (shape_of p.left) (shape_of p.right) ≡ Greater))) → ⊥
@@ -156,7 +156,7 @@ listed_from_canonical p c = record { sides = c.sides; first = none }
         let s = shape_cmp-equal (shape_of p.left) (shape_of p.right) h in
         let w = law_word (exchanged p) in
         not_below (map f w) (law_word p)
-        (upto nat_list_cmp_total (law_word p) (numbered w) (map f w) (c.words s) (numbered_below f inj w))
+        (upto nat_list_cmp_total (law_word p) (by_occurrence w) (map f w) (c.words s) (by_occurrence_below f inj w))
         (ap (λ x. slice_cmp nat_cmp x (law_word p)) (sym (law_word-renamed f (exchanged p)))
         ∙ sym (law_cmp-word (law_renamed f (exchanged p)) p (shape_of-renamed f p.right ∙ sym s) (shape_of-renamed f p.left ∙ s)) ∙ e)
 

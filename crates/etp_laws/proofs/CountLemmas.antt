@@ -3,7 +3,7 @@ use Rattle.std.proofs.Common.{◌≡◌, ℕ, ◌+◌, ◌-◌, ◌*◌, ◌<◌
 use Rattle.std.proofs.lemmas.Bool.{cases_lt, and_parts, eqb-true, ltb-true}
 use Rattle.etp_theory.specs.Trees.{Shape, fork, shape_ops}
 use Rattle.etp_laws.specs.declared.counts.TheConstants.{WORDS}
-use Rattle.etp_laws.specs.Numbering.{Grows}
+use Rattle.etp_laws.specs.Occurrences.{Grows}
 use Rattle.etp_laws.specs.Enumeration.{words, shapes}
 use Rattle.etp_laws.specs.Places.{words_count, shape_rank, pairs_below}
 use Rattle.etp_laws.proofs.ShapePlaces.{shape_rank-below}

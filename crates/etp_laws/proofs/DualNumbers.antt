@@ -13,8 +13,8 @@ use Rattle.std.specs.declared.cmp.Ordering.TheVariants.{Less, Equal}
 use Rattle.etp_theory.specs.Trees.{Equation, law_ops, law_dual, dual}
 use Rattle.etp_theory.specs.Orders.{law_cmp}
 use Rattle.etp_theory.specs.Sameness.{Same}
-use Rattle.etp_laws.specs.Listing.{Listed, IsTheList, trivial}
-use Rattle.etp_theory.specs.Numbered.{IsLaw, IsOwnInverse, law_numbered, dual_number}
+use Rattle.etp_laws.specs.Listing.{Listed, IsTheList, reflexive_law}
+use Rattle.etp_theory.specs.LawNumbers.{IsLaw, IsOwnInverse, law_numbered, dual_number}
 use Rattle.etp_laws.specs.LawLists.{LawList, IsNumberOf, HasNumber, IsDualOf, AreDuals}
 use Rattle.etp_laws.specs.Enumeration.{laws_upto}
 use Rattle.etp_laws.specs.Places.{number_of, dual_numbers}
@@ -85,7 +85,7 @@ one_number_of k xs p n m l a b =
 HasNumber-dual : (e : Equation) → Listed e → HasNumber (law_dual e)
 HasNumber-dual e listed = by_sides listed.sides
   where
-    by_sides : ((e.left ≢ e.right) ⊎ (e ≡ trivial)) → HasNumber (law_dual e)
+    by_sides : ((e.left ≢ e.right) ⊎ (e ≡ reflexive_law)) → HasNumber (law_dual e)
     by_sides (inl n) = inl (λ h. n (sym (dual-dual e.left) ∙ ap dual h ∙ dual-dual e.right))
     by_sides (inr t) = inr (0, ap (λ (q : Equation). dual q.left) t, ap (λ (q : Equation). dual q.right) t)
 
@@ -101,11 +101,11 @@ module _ (k : ℕ) (small : k ≤ 5) (xs : List Equation) (is : xs ≡ laws_upto
   unfolding dual_numbers
   dual_is n some within =
       let lt : n - 1 < length xs = omega arith in
-      let e : Equation = get_or xs (n - 1) trivial in
-      let at : law_numbered xs n ≡ Some e = entry_after xs n some ∙ slice_get-get_or xs (n - 1) trivial lt in
+      let e : Equation = get_or xs (n - 1) reflexive_law in
+      let at : law_numbered xs n ≡ Some e = entry_after xs n some ∙ slice_get-get_or xs (n - 1) reflexive_law lt in
       let listed = Listed-entry k xs n e the_list at in
       let few = small_entry k xs n e the_list at in
-      let number : number_of (law_dual e) ≡ dual_number ds n = sym (ap (λ ys. slice_index ys (n - 1)) duals ∙ get_or-map (λ e. number_of (law_dual e)) xs (n - 1) trivial 0 lt) in
+      let number : number_of (law_dual e) ≡ dual_number ds n = sym (ap (λ ys. slice_index ys (n - 1)) duals ∙ get_or-map (λ e. number_of (law_dual e)) xs (n - 1) reflexive_law 0 lt) in
       record {
         law = e;
         stands = at;

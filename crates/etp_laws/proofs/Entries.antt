@@ -8,7 +8,7 @@ use Rattle.std.specs.List.{slice_get}
 use Rattle.std.specs.Coded.{Coded-set, coded_list, coded_ℕ}
 use Rattle.etp_theory.specs.Trees.{Equation, law_ops}
 use Rattle.etp_laws.specs.Listing.{Listed, IsTheList}
-use Rattle.etp_theory.specs.Numbered.{law_numbered}
+use Rattle.etp_theory.specs.LawNumbers.{law_numbered}
 use Rattle.etp_laws.specs.LawLists.{LawList}
 use Rattle.etp_laws.specs.Coding.{coded_equation}
 use Rattle.etp_laws.specs.Enumeration.{laws_upto}

@@ -10,18 +10,18 @@ use Rattle.std.specs.declared.cmp.Ordering.TheVariants.{Less, Equal, Greater}
 use Rattle.etp_theory.specs.Trees.{var, op, Shape, leaf, Equation, shape_of, shape_ops, shape_leaves, law_word, law_ops, exchanged}
 use Rattle.etp_theory.specs.Orders.{shape_cmp}
 use Rattle.etp_theory.specs.Sameness.{Same}
-use Rattle.etp_laws.specs.Listing.{Listed, trivial}
+use Rattle.etp_laws.specs.Listing.{Listed, reflexive_law}
 use Rattle.etp_laws.specs.LawLists.{IsNumberOf, HasNumber}
-use Rattle.etp_laws.specs.Numbering.{numbered}
+use Rattle.etp_laws.specs.Occurrences.{by_occurrence}
 use Rattle.etp_laws.specs.Enumeration.{pairs_from, shapes, is_listed, law_at, laws_at, laws_of, laws_upto}
 use Rattle.etp_laws.specs.Places.{shape_rank, place_in_block, place_at, lesser, place_by, number_of}
 use Rattle.etp_term.proofs.Shapes.{shape_total, shape_cmp-equal, shape_ops-shape_of}
-use Rattle.etp_laws.proofs.Numbers.{moved, moved-injective, numbered-map}
+use Rattle.etp_laws.proofs.Occurrences.{moved, moved-injective, by_occurrence-map}
 use Rattle.etp_laws.proofs.Canonical.{cases_Ordering, canonical_from_listed, listed_from_canonical}
 use Rattle.etp_laws.proofs.WordLemmas.{length-word_of}
 use Rattle.etp_laws.proofs.TheList.{law_at-shapes_of, test_from_canonical}
 use Rattle.etp_laws.proofs.Readings.{reading_of, left_shape, right_shape, canonical_reading, law_ops-reading}
-use Rattle.etp_laws.proofs.Trivial.{Listed-trivial, lone_same}
+use Rattle.etp_laws.proofs.ReflexiveLaw.{Listed-reflexive_law, lone_same}
 use Rattle.etp_laws.proofs.Variables.{growing}
 use Rattle.etp_laws.proofs.Entries.{entry_after}
 use Rattle.etp_laws.proofs.Blocks.{shape_leaves-ops}
@@ -83,7 +83,7 @@ greater_not_equal : Greater ≡ Equal → ⊥
 greater_not_equal e = cc
 
 module _ (p : Equation) (n : p.left ≢ p.right) where
-  plain : is_gt (shape_cmp (shape_of p.left) (shape_of p.right)) ≡ false → (shape_of p.left ≡ shape_of p.right → is_gt (slice_cmp nat_cmp (numbered (law_word p)) (numbered (law_word (exchanged p)))) ≡ false) → place_at (shape_of p.left) (shape_of p.right) (numbered (law_word p)) ≡ place_by (shape_cmp (shape_of p.left) (shape_of p.right)) p → Found p
+  plain : is_gt (shape_cmp (shape_of p.left) (shape_of p.right)) ≡ false → (shape_of p.left ≡ shape_of p.right → is_gt (slice_cmp nat_cmp (by_occurrence (law_word p)) (by_occurrence (law_word (exchanged p)))) ≡ false) → place_at (shape_of p.left) (shape_of p.right) (by_occurrence (law_word p)) ≡ place_by (shape_cmp (shape_of p.left) (shape_of p.right)) p → Found p
   plain s w e =
       let r = reading_of p in
       record {
@@ -94,7 +94,7 @@ module _ (p : Equation) (n : p.left ≢ p.right) where
         place = (λ i. place_at (left_shape p r.0 r.1 i) (right_shape p r.0 r.1 i) (r.1.word i)) ∙ e;
       }
 
-  turned : is_gt (shape_cmp (shape_of p.right) (shape_of p.left)) ≡ false → (shape_of p.right ≡ shape_of p.left → is_gt (slice_cmp nat_cmp (numbered (law_word (exchanged p))) (numbered (law_word p))) ≡ false) → place_at (shape_of p.right) (shape_of p.left) (numbered (law_word (exchanged p))) ≡ place_by (shape_cmp (shape_of p.left) (shape_of p.right)) p → Found p
+  turned : is_gt (shape_cmp (shape_of p.right) (shape_of p.left)) ≡ false → (shape_of p.right ≡ shape_of p.left → is_gt (slice_cmp nat_cmp (by_occurrence (law_word (exchanged p))) (by_occurrence (law_word p))) ≡ false) → place_at (shape_of p.right) (shape_of p.left) (by_occurrence (law_word (exchanged p))) ≡ place_by (shape_cmp (shape_of p.left) (shape_of p.right)) p → Found p
   turned s w e =
       let r = reading_of (exchanged p) in
       let l = law_ops-reading (exchanged p) r.0 r.1 in
@@ -109,23 +109,23 @@ module _ (p : Equation) (n : p.left ≢ p.right) where
   back : (s t : Shape) (o : Ordering) → shape_cmp s t ≡ o → shape_cmp t s ≡ ordering_reverse o
   back s t o e = shape_total.antisymm t s ∙ ap ordering_reverse e
 
-  first : shape_cmp (shape_of p.left) (shape_of p.right) ≡ Equal → is_gt (slice_cmp nat_cmp (numbered (law_word p)) (numbered (law_word (exchanged p)))) ≡ false → Found p
+  first : shape_cmp (shape_of p.left) (shape_of p.right) ≡ Equal → is_gt (slice_cmp nat_cmp (by_occurrence (law_word p)) (by_occurrence (law_word (exchanged p)))) ≡ false → Found p
   first e g =
       plain (ap is_gt e) (λ _. g)
-      (ap (λ b. place_at (shape_of p.left) (shape_of p.right) (cond b (numbered (law_word (exchanged p))) (numbered (law_word p)))) (sym g) ∙ ap (λ o. place_by o p) (sym e))
+      (ap (λ b. place_at (shape_of p.left) (shape_of p.right) (cond b (by_occurrence (law_word (exchanged p))) (by_occurrence (law_word p)))) (sym g) ∙ ap (λ o. place_by o p) (sym e))
 
-  by_words : shape_cmp (shape_of p.left) (shape_of p.right) ≡ Equal → ((slice_cmp nat_cmp (numbered (law_word p)) (numbered (law_word (exchanged p))) ≡ Less) ⊎ ((slice_cmp nat_cmp (numbered (law_word p)) (numbered (law_word (exchanged p))) ≡ Equal) ⊎ (slice_cmp nat_cmp (numbered (law_word p)) (numbered (law_word (exchanged p))) ≡ Greater))) → Found p
+  by_words : shape_cmp (shape_of p.left) (shape_of p.right) ≡ Equal → ((slice_cmp nat_cmp (by_occurrence (law_word p)) (by_occurrence (law_word (exchanged p))) ≡ Less) ⊎ ((slice_cmp nat_cmp (by_occurrence (law_word p)) (by_occurrence (law_word (exchanged p))) ≡ Equal) ⊎ (slice_cmp nat_cmp (by_occurrence (law_word p)) (by_occurrence (law_word (exchanged p))) ≡ Greater))) → Found p
   by_words e (inl w) = first e (ap is_gt w)
   by_words e (inr (inl w)) = first e (ap is_gt w)
   by_words e (inr (inr w)) =
       let s = shape_cmp-equal (shape_of p.left) (shape_of p.right) e in
-      turned (ap is_gt (back (shape_of p.left) (shape_of p.right) Equal e)) (λ _. ap is_gt (nat_list_cmp_total.antisymm (numbered (law_word (exchanged p))) (numbered (law_word p)) ∙ ap ordering_reverse w))
-      ((λ i. place_at (sym s i) (s i) (numbered (law_word (exchanged p))))
-      ∙ ap (λ o. place_at (shape_of p.left) (shape_of p.right) (cond (is_gt o) (numbered (law_word (exchanged p))) (numbered (law_word p)))) (sym w) ∙ ap (λ o. place_by o p) (sym e))
+      turned (ap is_gt (back (shape_of p.left) (shape_of p.right) Equal e)) (λ _. ap is_gt (nat_list_cmp_total.antisymm (by_occurrence (law_word (exchanged p))) (by_occurrence (law_word p)) ∙ ap ordering_reverse w))
+      ((λ i. place_at (sym s i) (s i) (by_occurrence (law_word (exchanged p))))
+      ∙ ap (λ o. place_at (shape_of p.left) (shape_of p.right) (cond (is_gt o) (by_occurrence (law_word (exchanged p))) (by_occurrence (law_word p)))) (sym w) ∙ ap (λ o. place_by o p) (sym e))
 
   by_shapes : ((shape_cmp (shape_of p.left) (shape_of p.right) ≡ Less) ⊎ ((shape_cmp (shape_of p.left) (shape_of p.right) ≡ Equal) ⊎ (shape_cmp (shape_of p.left) (shape_of p.right) ≡ Greater))) → Found p
   by_shapes (inl e) = plain (ap is_gt e) (λ h. absurd (less_not_equal (sym e ∙ (λ i. shape_cmp (h i) (shape_of p.right)) ∙ tied_itself shape_total (shape_of p.right)))) (ap (λ o. place_by o p) (sym e))
-  by_shapes (inr (inl e)) = by_words e (cases_Ordering (slice_cmp nat_cmp (numbered (law_word p)) (numbered (law_word (exchanged p)))))
+  by_shapes (inr (inl e)) = by_words e (cases_Ordering (slice_cmp nat_cmp (by_occurrence (law_word p)) (by_occurrence (law_word (exchanged p)))))
   by_shapes (inr (inr e)) = turned (ap is_gt (back (shape_of p.left) (shape_of p.right) Greater e)) (λ h. absurd (greater_not_equal (sym e ∙ (λ i. shape_cmp (sym h i) (shape_of p.right)) ∙ tied_itself shape_total (shape_of p.right)))) (ap (λ o. place_by o p) (sym e))
 
   differing : Found p
@@ -134,8 +134,8 @@ module _ (p : Equation) (n : p.left ≢ p.right) where
 -- the law of one variable on both sides
 lone : (p : Equation) (x : ℕ) → p.left ≡ var x → p.right ≡ var x → Found p
 lone p x l r = record {
-  entry = trivial;
-  listed = Listed-trivial;
+  entry = reflexive_law;
+  listed = Listed-reflexive_law;
   same = lone_same x p l r;
   ops = sym ((λ i. law_ops (is i)));
   place = sym (ap (λ w. place_at leaf leaf (lesser w w)) two) ∙ sym (ap (λ (q : Equation). place_by (shape_cmp (shape_of q.left) (shape_of q.right)) q) is);
@@ -147,8 +147,8 @@ lone p x l r = record {
     here : moved x 0 x ≡ 0
     here = grind (arith, nat_tests)
 
-    two : numbered (x ∷ x ∷ []) ≡ 0 ∷ 0 ∷ []
-    two = sym (numbered-map (moved x 0) (moved-injective x 0) (x ∷ x ∷ [])) ∙ ap (λ y. numbered (y ∷ y ∷ [])) here
+    two : by_occurrence (x ∷ x ∷ []) ≡ 0 ∷ 0 ∷ []
+    two = sym (by_occurrence-map (moved x 0) (moved-injective x 0) (x ∷ x ∷ [])) ∙ ap (λ y. by_occurrence (y ∷ y ∷ [])) here
 
 found : (p : Equation) → HasNumber p → Found p
 found p (inl n) = differing p n

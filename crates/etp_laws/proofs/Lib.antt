@@ -1,4 +1,4 @@
-pub mod Numbers
+pub mod Occurrences
 pub mod Canonical
 pub mod Rising
 pub mod WordLemmas
@@ -9,8 +9,8 @@ pub mod Unique
 pub mod Readings
 pub mod Counting
 pub mod Duals
-pub mod Trivial
-pub mod FormLemmas
+pub mod ReflexiveLaw
+pub mod ShapeLemmas
 pub mod LetterLemmas
 pub mod Blocks
 pub mod Variables

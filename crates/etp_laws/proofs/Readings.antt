@@ -9,10 +9,10 @@ use Rattle.etp_theory.specs.Sameness.{IsInjective, Same}
 use Rattle.etp_theory.specs.Trees.{Tree, var, op, Shape, Equation, shape_of, law_word, law_ops, renamed, law_renamed, exchanged}
 use Rattle.etp_laws.specs.Enumeration.{law_at}
 use Rattle.etp_laws.specs.Listing.{Listed}
-use Rattle.etp_laws.specs.Numbering.{numbered}
+use Rattle.etp_laws.specs.Occurrences.{by_occurrence}
 use Rattle.etp_laws.specs.Canonical.{IsCanonical}
 use Rattle.etp_term.proofs.Shapes.{shape_total, shape_cmp-equal}
-use Rattle.etp_laws.proofs.Numbers.{numbered_by, numbered-map, numbered-numbered}
+use Rattle.etp_laws.proofs.Occurrences.{renaming_by_occurrence, by_occurrence-map, by_occurrence-by_occurrence}
 use Rattle.etp_laws.proofs.Canonical.{cases_Ordering, shape_of-renamed, law_word-renamed, ops-shape_of, slice_cmp-equal, canonical_from_listed}
 use Rattle.etp_laws.proofs.TheList.{law_at-shapes_of}
 
@@ -30,11 +30,11 @@ pub record Reading (p e : Equation) : Type 0 where
   pub by : ℕ → ℕ
   pub injective : IsInjective by
   pub is : law_renamed by p ≡ e
-  pub word : law_word e ≡ numbered (law_word p)
+  pub word : law_word e ≡ by_occurrence (law_word p)
 
 pub reading_of : (p : Equation) → (e : Equation) × Reading p e
 reading_of p =
-    let n = numbered_by (law_word p) in
+    let n = renaming_by_occurrence (law_word p) in
     (law_renamed n.to p, record { by = n.to; injective = n.injective; is = refl; word = law_word-renamed n.to p ∙ n.is })
 
 pub left_shape : (p e : Equation) → Reading p e → shape_of e.left ≡ shape_of p.left
@@ -49,7 +49,7 @@ reading_from p e f inj is c = record {
   by = f;
   injective = inj;
   is = is;
-  word = sym c.by_occurrence ∙ ap (λ q. numbered (law_word q)) (sym is) ∙ ap numbered (law_word-renamed f p) ∙ numbered-map f inj (law_word p);
+  word = sym c.occurrences ∙ ap (λ q. by_occurrence (law_word q)) (sym is) ∙ ap by_occurrence (law_word-renamed f p) ∙ by_occurrence-map f inj (law_word p);
 }
 
 -- laws of one pair of shapes and one word are one law
@@ -57,8 +57,8 @@ same_law : (p q : Equation) → shape_of p.left ≡ shape_of q.left → shape_of
 same_law p q l r w = sym (law_at-shapes_of p) ∙ (λ i. law_at (l i, r i) (w i)) ∙ law_at-shapes_of q
 
 -- the numbered word of the exchanged reading is that of the exchanged law
-exchanged_word : (p e : Equation) → Reading p e → numbered (law_word (exchanged e)) ≡ numbered (law_word (exchanged p))
-exchanged_word p e r = ap (λ q. numbered (law_word (exchanged q))) (sym r.is) ∙ ap numbered (law_word-renamed r.by (exchanged p)) ∙ numbered-map r.by r.injective (law_word (exchanged p))
+exchanged_word : (p e : Equation) → Reading p e → by_occurrence (law_word (exchanged e)) ≡ by_occurrence (law_word (exchanged p))
+exchanged_word p e r = ap (λ q. by_occurrence (law_word (exchanged q))) (sym r.is) ∙ ap by_occurrence (law_word-renamed r.by (exchanged p)) ∙ by_occurrence-map r.by r.injective (law_word (exchanged p))
 
 both_ways : (xs ys : List ℕ) → is_gt (slice_cmp nat_cmp xs ys) ≡ false → is_gt (slice_cmp nat_cmp ys xs) ≡ false → xs ≡ ys
 both_ways xs ys h k = one (cases_Ordering (slice_cmp nat_cmp xs ys))
@@ -109,9 +109,9 @@ Listed-unique p e e' l l' (f, inj, inr h) (g, inj', inr k) =
     same_law e e' (left_shape (exchanged p) e r ∙ sym (left_shape (exchanged p) e' s)) (right_shape (exchanged p) e r ∙ sym (right_shape (exchanged p) e' s)) (r.word ∙ sym s.word)
 
 -- the reading of a law whose left shape is not greater, and whose word is not greater where the shapes are equal, is canonical
-pub canonical_reading : (p e : Equation) → Reading p e → is_gt (shape_cmp (shape_of p.left) (shape_of p.right)) ≡ false → (shape_of p.left ≡ shape_of p.right → is_gt (slice_cmp nat_cmp (numbered (law_word p)) (numbered (law_word (exchanged p)))) ≡ false) → p.left ≢ p.right → IsCanonical e
+pub canonical_reading : (p e : Equation) → Reading p e → is_gt (shape_cmp (shape_of p.left) (shape_of p.right)) ≡ false → (shape_of p.left ≡ shape_of p.right → is_gt (slice_cmp nat_cmp (by_occurrence (law_word p)) (by_occurrence (law_word (exchanged p)))) ≡ false) → p.left ≢ p.right → IsCanonical e
 canonical_reading p e r s w n = record {
-  by_occurrence = ap numbered r.word ∙ numbered-numbered (law_word p) ∙ sym r.word;
+  occurrences = ap by_occurrence r.word ∙ by_occurrence-by_occurrence (law_word p) ∙ sym r.word;
   shapes = (λ i. is_gt (shape_cmp (left_shape p e r i) (right_shape p e r i))) ∙ s;
   words = λ h. (λ i. is_gt (slice_cmp nat_cmp (r.word i) (exchanged_word p e r i))) ∙ w (sym (left_shape p e r) ∙ h ∙ right_shape p e r);
   sides = inl (λ h. n (renamed-injective r.by r.injective p.left p.right (ap (λ (q : Equation). q.left) r.is ∙ h ∙ sym (ap (λ (q : Equation). q.right) r.is))));
@@ -129,10 +129,10 @@ map-through g h [] = refl
 map-through g h (v ∷ w) = ap (λ u. h (g v) ∷ u) (map-through g h w)
 
 -- laws of one pair of shapes and one numbered word: a renaming takes one to the other
-renaming_between : (p q : Equation) → shape_of p.left ≡ shape_of q.left → shape_of p.right ≡ shape_of q.right → numbered (law_word p) ≡ numbered (law_word q) → (f : ℕ → ℕ) × IsInjective f × (law_renamed f p ≡ q)
+renaming_between : (p q : Equation) → shape_of p.left ≡ shape_of q.left → shape_of p.right ≡ shape_of q.right → by_occurrence (law_word p) ≡ by_occurrence (law_word q) → (f : ℕ → ℕ) × IsInjective f × (law_renamed f p ≡ q)
 renaming_between p q l r w =
-    let m = numbered_by (law_word p) in
-    let n = numbered_by (law_word q) in
+    let m = renaming_by_occurrence (law_word p) in
+    let n = renaming_by_occurrence (law_word q) in
     let f : ℕ → ℕ = λ y. n.back (m.to y) in
     let inj : IsInjective f = λ x y e. m.injective x y (sym (n.inverse.to (m.to x)) ∙ ap n.to e ∙ n.inverse.to (m.to y)) in (
       f,
@@ -141,14 +141,14 @@ renaming_between p q l r w =
           (law_word-renamed f p ∙ map-through m.to n.back (law_word p) ∙ ap (map n.back) (m.is ∙ w ∙ sym n.is) ∙ map-map n.to n.back n.inverse.back (law_word q)),
     )
 
-numbered-law_renamed : (f : ℕ → ℕ) → IsInjective f → (p : Equation) → numbered (law_word (law_renamed f p)) ≡ numbered (law_word p)
-numbered-law_renamed f inj p = ap numbered (law_word-renamed f p) ∙ numbered-map f inj (law_word p)
+by_occurrence-law_renamed : (f : ℕ → ℕ) → IsInjective f → (p : Equation) → by_occurrence (law_word (law_renamed f p)) ≡ by_occurrence (law_word p)
+by_occurrence-law_renamed f inj p = ap by_occurrence (law_word-renamed f p) ∙ by_occurrence-map f inj (law_word p)
 
 pub Same-sym : (p q : Equation) → Same p q → Same q p
 Same-sym p q (f, inj, inl e) =
-    let b = renaming_between q p (ap (λ (u : Equation). shape_of u.left) (sym e) ∙ shape_of-renamed f p.left) (ap (λ (u : Equation). shape_of u.right) (sym e) ∙ shape_of-renamed f p.right) (ap (λ u. numbered (law_word u)) (sym e) ∙ numbered-law_renamed f inj p) in
+    let b = renaming_between q p (ap (λ (u : Equation). shape_of u.left) (sym e) ∙ shape_of-renamed f p.left) (ap (λ (u : Equation). shape_of u.right) (sym e) ∙ shape_of-renamed f p.right) (ap (λ u. by_occurrence (law_word u)) (sym e) ∙ by_occurrence-law_renamed f inj p) in
     (b.0, b.1, inl b.2)
 Same-sym p q (f, inj, inr e) =
     let h : law_renamed f (exchanged p) ≡ q = ap exchanged e in
-    let b = renaming_between q (exchanged p) (ap (λ (u : Equation). shape_of u.left) (sym h) ∙ shape_of-renamed f p.right) (ap (λ (u : Equation). shape_of u.right) (sym h) ∙ shape_of-renamed f p.left) (ap (λ u. numbered (law_word u)) (sym h) ∙ numbered-law_renamed f inj (exchanged p)) in
+    let b = renaming_between q (exchanged p) (ap (λ (u : Equation). shape_of u.left) (sym h) ∙ shape_of-renamed f p.right) (ap (λ (u : Equation). shape_of u.right) (sym h) ∙ shape_of-renamed f p.left) (ap (λ u. by_occurrence (law_word u)) (sym h) ∙ by_occurrence-law_renamed f inj (exchanged p)) in
     (b.0, b.1, inr b.2)

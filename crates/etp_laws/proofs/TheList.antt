@@ -12,11 +12,11 @@ use Rattle.std.specs.declared.cmp.Ordering.TheVariants.{Less, Equal, Greater}
 use Rattle.etp_theory.specs.Orders.{shape_cmp, law_cmp}
 use Rattle.etp_theory.specs.Trees.{Tree, var, op, Shape, fork, Equation, shape_of, word_of, law_word, shape_ops, ops, law_ops, exchanged, shape_leaves}
 use Rattle.etp_laws.specs.Enumeration.{words, pairs_from, joined, shapes, same_tree, is_first_reading, is_listed, law_at, laws_at, laws_of, laws_upto}
-use Rattle.etp_laws.specs.Listing.{Listed, IsTheList, trivial}
-use Rattle.etp_laws.specs.Numbering.{numbered, Grows}
+use Rattle.etp_laws.specs.Listing.{Listed, IsTheList, reflexive_law}
+use Rattle.etp_laws.specs.Occurrences.{by_occurrence, Grows}
 use Rattle.etp_laws.specs.Canonical.{IsCanonical}
 use Rattle.etp_term.proofs.Shapes.{shape_total, shape_cmp-equal, shape_ops-shape_of, then_assoc}
-use Rattle.etp_laws.proofs.Numbers.{Grows-numbered_after, numbered_after-Grows}
+use Rattle.etp_laws.proofs.Occurrences.{Grows-by_occurrence_after, by_occurrence_after-Grows}
 use Rattle.etp_laws.proofs.Canonical.{cases_Ordering, canonical_from_listed, listed_from_canonical}
 use Rattle.etp_laws.proofs.Rising.{In, In-map, In-map_source, In-flat_map, In-flat_map_source, In-filter, In-filter_source, In-range, In-range_bounds, Rising-map, Rising-flat_map, Rising-range, Contains-from_in, All-from_in}
 use Rattle.etp_laws.proofs.WordLemmas.{In-words, words_are, Rising-words, length-word_of, shape_of-filled, word_of-filled, filled-word_of}
@@ -35,16 +35,16 @@ same_tree-itself (var v) = eq-eqb v v refl
 same_tree-itself (op a b) = and_from (same_tree a a) (same_tree b b) (same_tree-itself a) (same_tree-itself b)
 
 -- a numbered law of no operation with equal sides is `x = x`
-trivial_from : (l r : Tree) → same_tree l r ≡ true → ops l + ops r ≡ 0 → numbered (word_of l ++ word_of r) ≡ word_of l ++ word_of r → (let p : Equation = record { left = l; right = r } in p ≡ trivial)
-trivial_from (var v) (var w) e z n = let a = eqb-true v w e in let b : 0 ≡ v = first n in (λ i. record { left = var ((sym b) i); right = var ((sym a ∙ sym b) i) })
+reflexive_from : (l r : Tree) → same_tree l r ≡ true → ops l + ops r ≡ 0 → by_occurrence (word_of l ++ word_of r) ≡ word_of l ++ word_of r → (let p : Equation = record { left = l; right = r } in p ≡ reflexive_law)
+reflexive_from (var v) (var w) e z n = let a = eqb-true v w e in let b : 0 ≡ v = first n in (λ i. record { left = var ((sym b) i); right = var ((sym a ∙ sym b) i) })
   where
-    first : numbered (v ∷ w ∷ []) ≡ v ∷ w ∷ [] → 0 ≡ v
+    first : by_occurrence (v ∷ w ∷ []) ≡ v ∷ w ∷ [] → 0 ≡ v
     first h = cc
-trivial_from (var v) (op c d) e z n = absurd (true≢false (sym e))
-trivial_from (op a b) (var w) e z n = absurd (true≢false (sym e))
-trivial_from (op a b) (op c d) e z n = absurd (omega arith)
+reflexive_from (var v) (op c d) e z n = absurd (true≢false (sym e))
+reflexive_from (op a b) (var w) e z n = absurd (true≢false (sym e))
+reflexive_from (op a b) (op c d) e z n = absurd (omega arith)
 
-pub canonical_from_test : (p : Equation) → numbered (law_word p) ≡ law_word p → is_listed p ≡ true → IsCanonical p
+pub canonical_from_test : (p : Equation) → by_occurrence (law_word p) ≡ law_word p → is_listed p ≡ true → IsCanonical p
 canonical_from_test p n h = by_cases (cases_Ordering (shape_cmp (shape_of p.left) (shape_of p.right)))
   where
     unlike : Less ≡ Equal → ⊥
@@ -53,24 +53,24 @@ canonical_from_test p n h = by_cases (cases_Ordering (shape_cmp (shape_of p.left
     at : (o : Ordering) → shape_cmp (shape_of p.left) (shape_of p.right) ≡ o → is_first_reading o p ≡ true
     at o e = ap (λ x. is_first_reading x p) (sym e) ∙ h
 
-    differ : (p.left ≡ p.right → ⊥) → (p.left ≢ p.right) ⊎ (p ≡ trivial)
+    differ : (p.left ≡ p.right → ⊥) → (p.left ≢ p.right) ⊎ (p ≡ reflexive_law)
     differ k = inl k
 
-    by_sides : (same_tree p.left p.right ≡ true) ⊎ (same_tree p.left p.right ≡ false) → (not (same_tree p.left p.right) || (law_ops p == 0)) ≡ true → (p.left ≢ p.right) ⊎ (p ≡ trivial)
-    by_sides (inl s) k = inr (trivial_from p.left p.right s (eqb-true (law_ops p) 0 (ap (λ b. not b || (law_ops p == 0)) (sym s) ∙ k)) n)
+    by_sides : (same_tree p.left p.right ≡ true) ⊎ (same_tree p.left p.right ≡ false) → (not (same_tree p.left p.right) || (law_ops p == 0)) ≡ true → (p.left ≢ p.right) ⊎ (p ≡ reflexive_law)
+    by_sides (inl s) k = inr (reflexive_from p.left p.right s (eqb-true (law_ops p) 0 (ap (λ b. not b || (law_ops p == 0)) (sym s) ∙ k)) n)
     by_sides (inr s) k = inl (λ e. true≢false (sym (ap (same_tree p.left) (sym e) ∙ same_tree-itself p.left) ∙ s))
 
     by_cases : ((shape_cmp (shape_of p.left) (shape_of p.right) ≡ Less) ⊎ ((shape_cmp (shape_of p.left) (shape_of p.right) ≡ Equal) ⊎ (shape_cmp (shape_of p.left) (shape_of p.right) ≡ Greater))) → IsCanonical p
     by_cases (inl e) = record {
-      by_occurrence = n;
+      occurrences = n;
       shapes = ap is_gt e;
       words = λ s. absurd (unlike (sym e ∙ (λ i. shape_cmp (s i) (shape_of p.right)) ∙ tied_itself shape_total (shape_of p.right)));
       sides = inl (λ s. unlike (sym e ∙ (λ i. shape_cmp (shape_of (s i)) (shape_of p.right)) ∙ tied_itself shape_total (shape_of p.right)));
     }
     by_cases (inr (inl e)) =
-        let k = and_parts (not (is_gt (slice_cmp nat_cmp (law_word p) (numbered (law_word (exchanged p)))))) (not (same_tree p.left p.right) || (law_ops p == 0)) (at Equal e) in
+        let k = and_parts (not (is_gt (slice_cmp nat_cmp (law_word p) (by_occurrence (law_word (exchanged p)))))) (not (same_tree p.left p.right) || (law_ops p == 0)) (at Equal e) in
         record {
-          by_occurrence = n;
+          occurrences = n;
           shapes = ap is_gt e;
           words = λ s. not-true _ k.0;
           sides = by_sides (cases_Bool (same_tree p.left p.right)) k.1;
@@ -80,7 +80,7 @@ canonical_from_test p n h = by_cases (cases_Ordering (shape_cmp (shape_of p.left
 pub test_from_canonical : (p : Equation) → IsCanonical p → is_listed p ≡ true
 test_from_canonical p c = by_cases (cases_Ordering (shape_cmp (shape_of p.left) (shape_of p.right)))
   where
-    by_sides : ((p.left ≢ p.right) ⊎ (p ≡ trivial)) → (not (same_tree p.left p.right) || (law_ops p == 0)) ≡ true
+    by_sides : ((p.left ≢ p.right) ⊎ (p ≡ reflexive_law)) → (not (same_tree p.left p.right) || (law_ops p == 0)) ≡ true
     by_sides (inl k) = or_left (not (same_tree p.left p.right)) (law_ops p == 0) (not_from_false _ (false_from_ne_true _ (λ e. k (same_tree-true p.left p.right e))))
     by_sides (inr e) = or_right (not (same_tree p.left p.right)) (law_ops p == 0) (ap (λ q. law_ops q == 0) e)
 
@@ -132,7 +132,7 @@ law_at-shapes_of p = λ i. sides_of (filled-word_of (op p.left p.right) i)
   where
     sides_of : Tree → Equation
     sides_of (op l r) = record { left = l; right = r }
-    sides_of (var v) = trivial
+    sides_of (var v) = reflexive_law
 
 record FromPair (s : Shape × Shape) (p : Equation) : Type 0 where
   word : List ℕ
@@ -181,8 +181,8 @@ laws_of_are n p h =
     let s = shapes_are r.0 p f in
     let l = ops-shapes_of p in
     let same : shape_ops (shape_of p.left) + shape_ops (shape_of p.right) ≡ shape_ops r.0.0 + shape_ops r.0.1 = ap (λ (t : Shape × Shape). shape_ops t.0 + shape_ops t.1) s in
-    let numbered_word : numbered (law_word p) ≡ law_word p = ap numbered w ∙ numbered_after-Grows f.word [] (λ y. zero_min y) f.grows ∙ sym w in
-    (listed_from_canonical p (canonical_from_test p numbered_word f.passes), omega arith)
+    let by_occurrence_word : by_occurrence (law_word p) ≡ law_word p = ap by_occurrence w ∙ by_occurrence_after-Grows f.word [] (λ y. zero_min y) f.grows ∙ sym w in
+    (listed_from_canonical p (canonical_from_test p by_occurrence_word f.passes), omega arith)
   where
     zero_min : (y : ℕ) → 0 ≡ min y 0
     zero_min y = grind arith
@@ -192,7 +192,7 @@ In-laws_of p listed =
     let c = canonical_from_listed p listed in
     let s = shapes_of p in
     let long : length (law_word p) ≡ shape_leaves (shape_of p.left) + shape_leaves (shape_of p.right) = length-word_of (op p.left p.right) in
-    let grows : Grows 0 (law_word p) = subst (Grows 0) c.by_occurrence (Grows-numbered_after (law_word p) []) in
+    let grows : Grows 0 (law_word p) = subst (Grows 0) c.occurrences (Grows-by_occurrence_after (law_word p) []) in
     In-flat_map laws_at (shapes_of p) p (pairs_from shapes (law_ops p))
     (In-pairs shapes (law_ops p) (AreShapes-shapes (law_ops p)) (shape_of p.left) (shape_of p.right) (ops-shapes_of p))
     (In-filter is_listed p (map (law_at (shapes_of p)) (words (shape_leaves (shape_of p.left) + shape_leaves (shape_of p.right)) 0))

@@ -2,11 +2,11 @@
 use Rattle.std.proofs.Common.{◌≡◌, ℕ, ◌+◌, ◌<◌, ◌≤◌, ◌⊎◌, inl, inr, ◌++◌, List, [], ◌∷◌, length, sym, ◌∙◌, subst, suc, max, arith}
 use Rattle.std.proofs.lemmas.Bool.{cases_order}
 use Rattle.etp_theory.specs.Trees.{Tree, var, op, Equation, shape_of, shape_leaves, word_of, law_word, law_ops, bound}
-use Rattle.etp_laws.specs.Numbering.{Grows}
+use Rattle.etp_laws.specs.Occurrences.{Grows}
 use Rattle.etp_laws.specs.Listing.{Listed}
 use Rattle.etp_laws.specs.LawLists.{HasVariables}
 use Rattle.etp_term.proofs.Shapes.{shape_ops-shape_of}
-use Rattle.etp_laws.proofs.Numbers.{Grows-numbered_after}
+use Rattle.etp_laws.proofs.Occurrences.{Grows-by_occurrence_after}
 use Rattle.etp_laws.proofs.Canonical.{canonical_from_listed}
 use Rattle.etp_laws.proofs.Rising.{In, Contains-from_in}
 use Rattle.etp_laws.proofs.WordLemmas.{length-word_of}
@@ -52,7 +52,7 @@ top_growing k (x ∷ w) (inl g) = let lt = g.0 in let l = top_growing k w g.1 in
 top_growing k (x ∷ w) (inr g) = let at = g.0 in let l = top_growing (k + 1) w g.1 in omega arith
 
 pub growing : (p : Equation) → Listed p → Grows 0 (law_word p)
-growing p listed = subst (Grows 0) (canonical_from_listed p listed).by_occurrence (Grows-numbered_after (law_word p) [])
+growing p listed = subst (Grows 0) (canonical_from_listed p listed).occurrences (Grows-by_occurrence_after (law_word p) [])
 
 pub HasVariables-bound : (p : Equation) → Listed p → HasVariables p (max (bound p.left) (bound p.right))
 HasVariables-bound p listed v =

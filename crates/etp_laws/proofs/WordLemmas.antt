@@ -9,7 +9,7 @@ use Rattle.std.specs.Cmp.Lexicographic.{slice_cmp}
 use Rattle.std.specs.Ordering.{nat_cmp, ordering_then}
 use Rattle.std.specs.declared.cmp.Ordering.TheVariants.{Equal}
 use Rattle.etp_theory.specs.Trees.{Tree, var, op, Shape, leaf, fork, shape_of, word_of, shape_leaves}
-use Rattle.etp_laws.specs.Numbering.{Grows}
+use Rattle.etp_laws.specs.Occurrences.{Grows}
 use Rattle.etp_laws.specs.Enumeration.{filled, used_after, words}
 use Rattle.etp_laws.proofs.Rising.{In, In-map, In-map_source, In-flat_map, In-flat_map_source, In-range, In-range_bounds, Rising-map, Rising-flat_map, Rising-range}
 

@@ -7,7 +7,7 @@ use Rattle.std.specs.declared.cmp.Ordering.{Ordering}
 use Rattle.std.specs.declared.cmp.Ordering.TheVariants.{Less, Equal, Greater}
 use Rattle.etp_theory.specs.Trees.{Shape, Equation, shape_leaves}
 use Rattle.etp_theory.specs.Orders.{shape_cmp}
-use Rattle.etp_laws.specs.Numbering.{Grows}
+use Rattle.etp_laws.specs.Occurrences.{Grows}
 use Rattle.etp_laws.specs.Enumeration.{used_after, words, is_first_reading, is_listed, is_kept, law_at, laws_at}
 use Rattle.etp_laws.specs.Places.{rank, place_in_block}
 use Rattle.etp_term.proofs.Shapes.{shape_cmp-equal}

@@ -8,7 +8,7 @@ use Rattle.std.specs.declared.cmp.Ordering.{Ordering}
 use Rattle.std.specs.declared.cmp.Ordering.TheVariants.{Less, Equal, Greater}
 use Rattle.etp_theory.specs.Orders.{shape_cmp}
 use Rattle.etp_theory.specs.Trees.{Tree, var, op, Shape, leaf, fork, Equation, shape_of, shape_leaves, law_word, exchanged, law_ops}
-use Rattle.etp_laws.specs.Numbering.{numbered}
+use Rattle.etp_laws.specs.Occurrences.{by_occurrence}
 
 -- the shape with the word's variables at its leaves
 abbrev pub filled : Shape → List ℕ → Tree
@@ -50,7 +50,7 @@ same_tree (op a b) (op c d) = same_tree a c && same_tree b d
 -- of a law that is numbered by first occurrence: whether it is listed
 abbrev pub is_first_reading : Ordering → Equation → Bool
 is_first_reading Less p = true
-is_first_reading Equal p = not (is_gt (slice_cmp nat_cmp (law_word p) (numbered (law_word (exchanged p))))) && (not (same_tree p.left p.right) || (law_ops p == 0))
+is_first_reading Equal p = not (is_gt (slice_cmp nat_cmp (law_word p) (by_occurrence (law_word (exchanged p))))) && (not (same_tree p.left p.right) || (law_ops p == 0))
 is_first_reading Greater p = false
 
 abbrev pub is_listed : Equation → Bool
@@ -62,7 +62,7 @@ law_at s w = record { left = filled s.0 (take (shape_leaves s.0) w); right = fil
 -- of a word of a law whose sides have m variables each: whether the law is listed
 abbrev pub is_kept : ℕ → List ℕ → Bool
 is_kept m w =
-    not (is_gt (slice_cmp nat_cmp w (numbered (drop m w ++ take m w)))) && (not (bytes_eq (take m w) (drop m w)) || (m == 1))
+    not (is_gt (slice_cmp nat_cmp w (by_occurrence (drop m w ++ take m w)))) && (not (bytes_eq (take m w) (drop m w)) || (m == 1))
 
 abbrev pub laws_at : Shape × Shape → List Equation
 laws_at s = filter is_listed (map (law_at s) (words (shape_leaves s.0 + shape_leaves s.1) 0))

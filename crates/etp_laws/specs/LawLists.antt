@@ -2,7 +2,7 @@
 use Rattle.std.specs.Prelude.{◌≡◌, ◌≢◌, ◌⊎◌, ◌↔◌, ℕ, ◌<◌, ◌≤◌, List, length, Contains, Some, refl}
 use Rattle.std.specs.Coded.{Coded, code_by, coded×, coded_ℕ, coded_list}
 use Rattle.etp_theory.specs.Trees.{var, Equation, law_word, law_dual}
-use Rattle.etp_theory.specs.Numbered.{law_numbered, dual_number}
+use Rattle.etp_theory.specs.LawNumbers.{law_numbered, dual_number}
 use Rattle.etp_theory.specs.Sameness.{Same}
 use Rattle.etp_laws.specs.Coding.{coded_equation}
 

@@ -1,10 +1,10 @@
 pub mod Listing
-pub mod Numbering
+pub mod Occurrences
 pub mod Canonical
 pub mod Enumeration
-pub mod Forms
+pub mod Shapes
 pub mod Coding
 pub mod LawLists
 pub mod Places
 pub mod Words
-pub mod Numbers
+pub mod NumberAnswers

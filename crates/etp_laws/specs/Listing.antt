@@ -7,12 +7,12 @@ use Rattle.etp_theory.specs.Orders.{law_cmp}
 use Rattle.etp_theory.specs.Sameness.{Same}
 
 -- `x = x`
-abbrev pub trivial : Equation
-trivial = record { left = var 0; right = var 0 }
+abbrev pub reflexive_law : Equation
+reflexive_law = record { left = var 0; right = var 0 }
 
 -- its sides differ or it is `x = x`, and no earlier law is the same
 pub record Listed (p : Equation) : Type 0 where
-  pub sides : (p.left ≢ p.right) ⊎ (p ≡ trivial)
+  pub sides : (p.left ≢ p.right) ⊎ (p ≡ reflexive_law)
   pub first : (q : Equation) → law_cmp q p ≡ Less → ¬ Same p q
 
 -- the strictly rising list that has exactly the listed laws of at most k operations

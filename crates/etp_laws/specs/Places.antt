@@ -7,7 +7,7 @@ use Rattle.std.specs.declared.cmp.Ordering.{Ordering}
 use Rattle.std.specs.declared.cmp.Ordering.TheVariants.{Less, Equal, Greater}
 use Rattle.etp_theory.specs.Trees.{Tree, dual, Shape, leaf, fork, Equation, shape_of, shape_ops, law_word, law_dual, exchanged}
 use Rattle.etp_theory.specs.Orders.{shape_cmp}
-use Rattle.etp_laws.specs.Numbering.{numbered}
+use Rattle.etp_laws.specs.Occurrences.{by_occurrence}
 use Rattle.etp_laws.specs.Enumeration.{used_after, words, shapes, is_kept}
 
 -- how many words of n variables go on after `used` variables
@@ -69,10 +69,10 @@ lesser u w = cond (is_gt (slice_cmp nat_cmp u w)) w u
 
 -- the place of the law that is the same, from the order of the two sides' shapes
 abbrev pub place_by : Ordering → Equation → ℕ
-place_by Less p = place_at (shape_of p.left) (shape_of p.right) (numbered (law_word p))
+place_by Less p = place_at (shape_of p.left) (shape_of p.right) (by_occurrence (law_word p))
 place_by Equal p =
-    place_at (shape_of p.left) (shape_of p.right) (lesser (numbered (law_word p)) (numbered (law_word (exchanged p))))
-place_by Greater p = place_at (shape_of p.right) (shape_of p.left) (numbered (law_word (exchanged p)))
+    place_at (shape_of p.left) (shape_of p.right) (lesser (by_occurrence (law_word p)) (by_occurrence (law_word (exchanged p))))
+place_by Greater p = place_at (shape_of p.right) (shape_of p.left) (by_occurrence (law_word (exchanged p)))
 
 abbrev pub number_of : Equation → ℕ
 number_of p = place_by (shape_cmp (shape_of p.left) (shape_of p.right)) p + 1

@@ -3,7 +3,7 @@ use Rattle.std.specs.Prelude.{◌≡◌, ℕ, List, All, Contains, length}
 use Rattle.std.specs.List.Sorted.{IsStrictlySortedBy}
 use Rattle.std.specs.Cmp.Lexicographic.{slice_cmp}
 use Rattle.std.specs.Ordering.{nat_cmp}
-use Rattle.etp_laws.specs.Numbering.{Grows}
+use Rattle.etp_laws.specs.Occurrences.{Grows}
 
 -- the strictly rising list of exactly the words of this many variables that go on after `used` ones
 pub record AreTheWords (leaves used : ℕ) (ws : List (List ℕ)) : Type 0 where

@@ -4,9 +4,9 @@ ghost use Rattle.etp_theory.specs.Trees.{Equation, bound, law_ops};
 ghost use Rattle.etp_term.specs.Terms.{tree_of};
 ghost use Rattle.etp_term.specs.Laws.{equation_of};
 ghost use Rattle.etp_laws.specs.Listing.{Listed, IsTheList};
-ghost use Rattle.etp_theory.specs.Numbered.{IsOwnInverse, law_numbered, dual_number};
+ghost use Rattle.etp_theory.specs.LawNumbers.{IsOwnInverse, law_numbered, dual_number};
 ghost use Rattle.etp_laws.specs.LawLists.{HasVariables, HasNumber, IsTrivial, IsDualOf, AreDuals};
-ghost use Rattle.etp_laws.specs.Numbers.{IsNumbered};
+ghost use Rattle.etp_laws.specs.NumberAnswers.{IsNumberAnswer};
 ghost use Rattle.etp_laws.specs.Places;
 
 use crate::listing::listed_upto;
@@ -118,7 +118,7 @@ impl Laws {
 
     /// The number of a law.
     pub fn number(&self, law: &Law) -> Numbered
-        ensures { IsNumbered self.now (equation_of law.now) result }
+        ensures { IsNumberAnswer self.now (equation_of law.now) result }
     {
         let ops = law.left.ops() + law.right.ops();
         if ops > self.order as u32 {

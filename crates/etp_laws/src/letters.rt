@@ -1,5 +1,5 @@
 ghost use Rattle.std.specs.Prelude.{◌≡◌, ◌<◌, ◌≤◌, ◌+◌, ◌++◌, ◌∷◌, [], ◌==◌, length, position};
-ghost use Rattle.etp_laws.specs.Numbering;
+ghost use Rattle.etp_laws.specs.Occurrences;
 
 use std::marker::Model;
 
@@ -48,9 +48,9 @@ impl Letters {
     /// The place of `v`, which is added where it is new.
     fn note(&mut self, v: u8) -> usize
         requires { length self.old < 8 }
-        ensures place { result ≡ Numbering.place self.old v }
+        ensures place { result ≡ Occurrences.place self.old v }
         ensures within { result ≤ length self.old }
-        ensures after { self.new ≡ Numbering.seen_after self.old v }
+        ensures after { self.new ≡ Occurrences.seen_after self.old v }
     {
         let place = place_of(&self.letters[..self.len], v);
         if place == self.len {
@@ -69,18 +69,19 @@ fn position_of(seen: &[u8], v: u8) -> Option<usize>
 
 /// The place of a variable among those seen, or their number where it is new.
 fn place_of(seen: &[u8], v: u8) -> usize
-    ensures place { result ≡ Numbering.place seen.now v }
+    ensures place { result ≡ Occurrences.place seen.now v }
     ensures within { result ≤ length seen.now }
 {
     position_of(seen, v).unwrap_or(seen.len())
 }
 
 /// Appends the word, numbered by first occurrence after the variables seen.
-fn append_numbered(word: &[u8], seen: &mut Letters, numbers: &mut Letters)
+fn append_by_occurrence(word: &[u8], seen: &mut Letters, numbers: &mut Letters)
     requires seen_short { length seen.old + length word.now ≤ 8 }
     requires short { length numbers.old + length word.now ≤ 8 }
-    ensures numbers { numbers.new ≡ numbers.old ++ Numbering.numbered_after seen.old word.now }
-    ensures after { seen.new ≡ Numbering.seen_all seen.old word.now }
+    ensures numbers { numbers.new ≡ numbers.old
+        ++ Occurrences.by_occurrence_after seen.old word.now }
+    ensures after { seen.new ≡ Occurrences.seen_all seen.old word.now }
     ensures seen_len { length seen.new ≤ length seen.old + length word.now }
     ensures len { length numbers.new ≡ length numbers.old + length word.now }
 {
@@ -91,15 +92,15 @@ fn append_numbered(word: &[u8], seen: &mut Letters, numbers: &mut Letters)
 }
 
 /// The word of two sides, numbered by first occurrence.
-pub fn numbered(left: &[u8], right: &[u8]) -> Letters
+pub fn by_occurrence(left: &[u8], right: &[u8]) -> Letters
     requires { length left.now + length right.now ≤ 8 }
-    ensures value { result ≡ Numbering.numbered (left.now ++ right.now) }
+    ensures value { result ≡ Occurrences.by_occurrence (left.now ++ right.now) }
     ensures len { length result ≡ length left.now + length right.now }
-    ensures grows { Numbering.Grows 0 result }
+    ensures grows { Occurrences.Grows 0 result }
 {
     let mut seen = Letters::new();
     let mut numbers = Letters::new();
-    append_numbered(left, &mut seen, &mut numbers);
-    append_numbered(right, &mut seen, &mut numbers);
+    append_by_occurrence(left, &mut seen, &mut numbers);
+    append_by_occurrence(right, &mut seen, &mut numbers);
     numbers
 }

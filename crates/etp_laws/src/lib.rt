@@ -2,12 +2,12 @@
 #![tactic(auto)]
 
 mod counts;
-mod forms;
 mod laws;
 mod letters;
 mod listing;
 mod parts;
 mod places;
+mod shapes;
 mod theorems;
 mod word_lists;
 

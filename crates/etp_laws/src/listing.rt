@@ -1,10 +1,10 @@
 ghost use Rattle.std.specs.Prelude.{◌≡◌, ◌≤◌, ◌+◌, ◌++◌, ◌∷◌, [], IfOk, OnOk, All, length, map, filter, flat_map};
 ghost use Rattle.etp_theory.specs.Trees.{shape_leaves};
 ghost use Rattle.etp_term.specs.Laws.{equation_of};
-ghost use Rattle.etp_laws.specs.Forms.{shape_from, sides_from};
+ghost use Rattle.etp_laws.specs.Shapes.{shape_from, sides_from};
 ghost use Rattle.etp_laws.specs.Enumeration.{words, is_kept, law_at, laws_at, laws_of, laws_upto};
 
-use crate::forms::{Sides, pairs};
+use crate::shapes::{Sides, pairs};
 use crate::word_lists::{is_kept, words};
 use etp_term::Law;
 use sqlite_items::Items;

@@ -4,13 +4,13 @@ ghost use Rattle.std.specs.declared.cmp.Ordering.TheVariants.{Equal};
 ghost use Rattle.etp_theory.specs.Trees.{ops, shape_of};
 ghost use Rattle.etp_theory.specs.Orders.{shape_cmp};
 ghost use Rattle.etp_term.specs.Terms.{tree_of};
-ghost use Rattle.etp_laws.specs.Numbering.{Grows};
+ghost use Rattle.etp_laws.specs.Occurrences.{Grows};
 ghost use Rattle.etp_laws.specs.Enumeration.{words, is_kept};
 ghost use Rattle.etp_laws.specs.Places.{words_count, place_from, place_by, number_of, seen, seen_law};
 ghost use Rattle.etp_laws.specs.Places;
 
 use crate::counts::{laws_below, pairs_below, shapes_of, words_of};
-use crate::letters::{Letters, numbered};
+use crate::letters::{Letters, by_occurrence};
 use crate::parts::{ShapePlace, letters_of, shape_of};
 use crate::word_lists::{is_kept, used_after};
 use etp_term::Term;
@@ -145,12 +145,12 @@ fn place_of(left: &Term, right: &Term, mirrored: bool) -> u32
     let right_word = letters_of(right, mirrored);
     match left_shape.order(&right_shape) {
         Ordering::Less => {
-            let plain = numbered(left_word.as_slice(), right_word.as_slice());
+            let plain = by_occurrence(left_word.as_slice(), right_word.as_slice());
             place_at(&left_shape, &right_shape, plain.as_slice())
         }
         Ordering::Equal => {
-            let plain = numbered(left_word.as_slice(), right_word.as_slice());
-            let exchanged = numbered(right_word.as_slice(), left_word.as_slice());
+            let plain = by_occurrence(left_word.as_slice(), right_word.as_slice());
+            let exchanged = by_occurrence(right_word.as_slice(), left_word.as_slice());
             place_at(
                 &left_shape,
                 &right_shape,
@@ -158,7 +158,7 @@ fn place_of(left: &Term, right: &Term, mirrored: bool) -> u32
             )
         }
         Ordering::Greater => {
-            let exchanged = numbered(right_word.as_slice(), left_word.as_slice());
+            let exchanged = by_occurrence(right_word.as_slice(), left_word.as_slice());
             place_at(&right_shape, &left_shape, exchanged.as_slice())
         }
     }

@@ -1,7 +1,7 @@
 ghost use Rattle.std.specs.Prelude.{◌≡◌, ◌<◌, ◌≤◌, ◌+◌, ◌++◌, ◌∷◌, IfOk, OnOk, map, length};
 ghost use Rattle.etp_laws.specs.Enumeration.{used_after, words, is_kept};
 
-use crate::letters::numbered;
+use crate::letters::by_occurrence;
 use sqlite_items::Items;
 use std::alloc::{AllocError, Global};
 
@@ -56,7 +56,7 @@ pub fn is_kept(word: &[u8], middle: usize) -> bool
     requires short { length word.now ≤ 8 }
     ensures { result ≡ is_kept middle word.now }
 {
-    let exchanged = numbered(&word[middle..], &word[..middle]);
+    let exchanged = by_occurrence(&word[middle..], &word[..middle]);
     let is_least = !word.cmp(&exchanged.as_slice()).is_gt();
     is_least && (word[..middle] != word[middle..] || middle == 1)
 }

@@ -3,8 +3,8 @@ use Rattle.std.proofs.Common.{◌≡◌, ℕ, ◌⊎◌, inl, inr, Bool, true, f
 use Rattle.etp_theory.specs.Trees.{Tree, var, op, Occurs}
 use Rattle.etp_theory.specs.Substitutions.{apply, Partial, total, value_or}
 use Rattle.etp_theory.specs.Positions.{Side, to_left, to_right, sub_at}
-use Rattle.etp_theory.proofs.Theorems.{position_laws}
-use Rattle.etp_term.specs.Sides.{side_of, position_of}
+use Rattle.etp_theory.proofs.Theorems.{position_theorems}
+use Rattle.etp_term.specs.Positions.{side_of, position_of}
 use Rattle.etp_term.specs.declared.position.Side as Program
 use Rattle.etp_match.specs.Matching.{Extends, NoneMatches, IsExtendedTo, Before, MisfitAt, operation, valued, repeated, IsFirstMisfit}
 use Rattle.etp_match.proofs.Extending.{occurs_or_not, later_extends, still_matches}
@@ -15,11 +15,11 @@ some_is h = cc
 -- where a substitution with the earlier values takes the pattern to the term, nothing is amiss
 pub no_misfit : (e : Partial) (p t : Tree) (m : ℕ → Tree) → Extends e m → apply m p ≡ t → (q : List Side) → MisfitAt e p t q → ⊥
 no_misfit e p t m x h q (operation a b v y z) =
-    let k : Some (apply m (op a b)) ≡ Some (var v) = sym (position_laws.sub_at_applied q m p (op a b) y) ∙ ap (sub_at q) h ∙ z in cc
+    let k : Some (apply m (op a b)) ≡ Some (var v) = sym (position_theorems.sub_at_applied q m p (op a b) y) ∙ ap (sub_at q) h ∙ z in cc
 no_misfit e p t m x h q (valued v s u y z k n) =
-    n (sym (x v u k) ∙ some_is (sym (position_laws.sub_at_applied q m p (var v) y) ∙ ap (sub_at q) h ∙ z))
+    n (sym (x v u k) ∙ some_is (sym (position_theorems.sub_at_applied q m p (var v) y) ∙ ap (sub_at q) h ∙ z))
 no_misfit e p t m x h q (repeated r v s u b y z y' z' n) =
-    n (some_is (sym z' ∙ ap (sub_at r) (sym h) ∙ position_laws.sub_at_applied r m p (var v) y' ∙ sym (position_laws.sub_at_applied q m p (var v) y) ∙ ap (sub_at q) h ∙ z))
+    n (some_is (sym z' ∙ ap (sub_at r) (sym h) ∙ position_theorems.sub_at_applied r m p (var v) y' ∙ sym (position_theorems.sub_at_applied q m p (var v) y) ∙ ap (sub_at q) h ∙ z))
 
 pub matched_clear : (e l : Partial) (p t : Tree) → IsExtendedTo p t e l → (q : List Side) → MisfitAt e p t q → ⊥
 matched_clear e l p t x = no_misfit e p t (total l) (later_extends p t e l x) x.matched
@@ -54,7 +54,7 @@ occurs_at (to_right ∷ q) (op a b) v h = inr (occurs_at q b v h)
 pub value_at : {e l : Partial} {p t : Tree} → IsExtendedTo p t e l → (q : List Side) (v : ℕ) (u : Tree) → sub_at q p ≡ Some (var v) → sub_at q t ≡ Some u → l.value v ≡ Some u
 value_at {l = l} {p = p} {t = t} x q v u h k =
     let g = x.given v (occurs_at q p v h) in
-    g.1 ∙ sym (sym k ∙ ap (sub_at q) (sym x.matched) ∙ position_laws.sub_at_applied q (total l) p (var v) h ∙ ap (λ z. Some (value_or z (var v))) g.1)
+    g.1 ∙ sym (sym k ∙ ap (sub_at q) (sym x.matched) ∙ position_theorems.sub_at_applied q (total l) p (var v) h ∙ ap (λ z. Some (value_or z (var v))) g.1)
 
 -- where a variable stands
 place_of : (v : ℕ) (p : Tree) → Occurs v p → (q : List Side) × (sub_at q p ≡ Some (var v))
@@ -73,7 +73,7 @@ origin_of p t e l x v u h = go (occurs_or_not v p)
     go : Occurs v p ⊎ (Occurs v p → ⊥) → Origin e p t v u
     go (inl o) =
         let r = place_of v p o in
-        placed r.0 r.1 (ap (sub_at r.0) (sym x.matched) ∙ position_laws.sub_at_applied r.0 (total l) p (var v) r.1 ∙ ap (λ z. Some (value_or z (var v))) h)
+        placed r.0 r.1 (ap (sub_at r.0) (sym x.matched) ∙ position_theorems.sub_at_applied r.0 (total l) p (var v) r.1 ∙ ap (λ z. Some (value_or z (var v))) h)
     go (inr o) = earlier (sym (x.others v o) ∙ h)
 
 module _ (e l : Partial) (a b c d : Tree) (left : IsExtendedTo a c e l) where

@@ -3,7 +3,7 @@ use Rattle.std.specs.Prelude.{◌≡◌, ◌≢◌, ℕ, List, [], ◌∷◌, �
 use Rattle.etp_theory.specs.Trees.{Tree, var, op, Occurs}
 use Rattle.etp_theory.specs.Substitutions.{apply, Partial, total}
 use Rattle.etp_theory.specs.Positions.{Side, to_left, to_right, sub_at}
-use Rattle.etp_term.specs.Sides.{position_of}
+use Rattle.etp_term.specs.Positions.{position_of}
 use Rattle.etp_match.specs.Bindings.{partial_of}
 use Rattle.etp_match.specs.declared.subst.Binding.{Binding}
 use Rattle.etp_match.specs.declared.matching.Matched.{Matched}

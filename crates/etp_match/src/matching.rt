@@ -1,6 +1,6 @@
 ghost use Rattle.std.specs.Prelude.{◌≡◌, IfOk, OnErr};
 ghost use Rattle.etp_term.specs.Terms.{tree_of};
-ghost use Rattle.etp_term.specs.Sides.{position_of};
+ghost use Rattle.etp_term.specs.Positions.{position_of};
 ghost use Rattle.etp_match.specs.Bindings.{partial_of};
 ghost use Rattle.etp_match.specs.Matching.{IsMatched, IsOutcome, NoneMatches, IsFirstMisfit};
 
@@ -25,7 +25,8 @@ pub fn match_onto(
     term: &Term,
     subst: &mut Subst,
 ) -> Result<Matched, NoMemory>
-    ensures ok { IfOk result (λ m. IsMatched (tree_of pattern.now) (tree_of term.now) subst.old subst.new m) }
+    ensures ok { IfOk result (λ m.
+        IsMatched (tree_of pattern.now) (tree_of term.now) subst.old subst.new m) }
     ensures err { OnErr result (subst.new ≡ subst.old) }
 {
     match outcome_of(alloc, pattern, term, subst)? {
@@ -71,7 +72,8 @@ fn first_misfit<'t>(
     bindings: &mut Bindings<'t>,
 ) -> Result<Position, NoMemory>
     requires { NoneMatches (tree_of pattern.now) (tree_of term.now) (partial_of bindings.old) }
-    ensures { IfOk result (λ p. IsFirstMisfit (partial_of bindings.old) (tree_of pattern.now) (tree_of term.now) (position_of p)) }
+    ensures { IfOk result (λ p. IsFirstMisfit (partial_of bindings.old) (tree_of pattern.now)
+        (tree_of term.now) (position_of p)) }
 {
     let mut position = Position::root(alloc);
     let mut inner = pattern;

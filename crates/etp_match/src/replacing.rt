@@ -1,6 +1,6 @@
 ghost use Rattle.std.specs.Prelude.{IfOk};
 ghost use Rattle.etp_term.specs.Terms.{tree_of};
-ghost use Rattle.etp_term.specs.Sides.{position_of};
+ghost use Rattle.etp_term.specs.Positions.{position_of};
 ghost use Rattle.etp_match.specs.Replacing.{IsReplaced};
 
 use etp_term::{NoMemory, Position, Side, Term};
@@ -14,7 +14,8 @@ pub fn replace_at(
     position: &Position,
     inner: Term,
 ) -> Result<Option<Term>, NoMemory>
-    ensures { IfOk result (λ o. IsReplaced (position_of position.now) (tree_of term.now) (tree_of inner) o) }
+    ensures { IfOk result
+        (λ o. IsReplaced (position_of position.now) (tree_of term.now) (tree_of inner) o) }
 {
     let replaced = replaced(alloc, term, position.as_slice(), inner)?;
     Ok(replaced)
@@ -26,7 +27,8 @@ fn replaced(
     sides: &[Side],
     inner: Term,
 ) -> Result<Option<Term>, NoMemory>
-    ensures { IfOk result (λ o. IsReplaced (position_of sides.now) (tree_of term.now) (tree_of inner) o) }
+    ensures { IfOk result
+        (λ o. IsReplaced (position_of sides.now) (tree_of term.now) (tree_of inner) o) }
 {
     match sides.split_first() {
         None => Ok(Some(inner)),

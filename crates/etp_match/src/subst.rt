@@ -54,7 +54,8 @@ impl Subst {
 
     /// The term with each variable replaced that has a value; a variable without one stays.
     pub fn apply(&self, alloc: Global, term: &Term) -> Result<Term, NoMemory>
-        ensures { IfOk result (λ t. tree_of t ≡ apply (total (partial_of self.now)) (tree_of term.now)) }
+        ensures { IfOk result (λ t.
+            tree_of t ≡ apply (total (partial_of self.now)) (tree_of term.now)) }
     {
         match term {
             Term::Var(v) => match self.get(*v) {
@@ -98,7 +99,8 @@ impl Subst {
 }
 
 fn value_in(bindings: &[Binding], variable: u8) -> Option<&Term>
-    ensures { option_map tree_of (option_copied result) ≡ value_of (map entry_of bindings.now) variable }
+    ensures { option_map tree_of (option_copied result)
+        ≡ value_of (map entry_of bindings.now) variable }
 {
     match bindings {
         [] => None,

@@ -141,9 +141,12 @@ impl<'t> Bindings<'t> {
     /// Whether some extension of the map takes the pattern to the term. The map is then extended by
     /// the values of the pattern's new variables, behind those that it had; else it is as before.
     pub fn matches(&mut self, pattern: &Term, term: &'t Term) -> bool
-        ensures yes { IsTrue result → IsExtendedTo (tree_of pattern.now) (tree_of term.now) (partial_of self.old) (partial_of self.new) }
+        ensures yes { IsTrue result
+            → IsExtendedTo (tree_of pattern.now) (tree_of term.now) (partial_of self.old)
+            (partial_of self.new) }
         ensures order { IsTrue result → take (length self.old) self.new ≡ self.old }
-        ensures no { result ≡ false → NoneMatches (tree_of pattern.now) (tree_of term.now) (partial_of self.old) }
+        ensures no { result ≡ false
+            → NoneMatches (tree_of pattern.now) (tree_of term.now) (partial_of self.old) }
         ensures unchanged { result ≡ false → self.new ≡ self.old }
     {
         let before = self.len();
@@ -156,8 +159,11 @@ impl<'t> Bindings<'t> {
 
     /// Gives values to the pattern's new variables from left to right, up to the first misfit.
     fn extend(&mut self, pattern: &Term, term: &'t Term) -> bool
-        ensures yes { IsTrue result → IsExtendedTo (tree_of pattern.now) (tree_of term.now) (partial_of self.old) (partial_of self.new) }
-        ensures no { result ≡ false → NoneMatches (tree_of pattern.now) (tree_of term.now) (partial_of self.old) }
+        ensures yes { IsTrue result
+            → IsExtendedTo (tree_of pattern.now) (tree_of term.now) (partial_of self.old)
+            (partial_of self.new) }
+        ensures no { result ≡ false
+            → NoneMatches (tree_of pattern.now) (tree_of term.now) (partial_of self.old) }
         ensures order { take (length self.old) self.new ≡ self.old }
     {
         match pattern {

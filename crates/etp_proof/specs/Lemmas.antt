@@ -2,7 +2,7 @@
 use Rattle.std.specs.Prelude.{map}
 use Rattle.etp_theory.specs.Proofs as Theory
 use Rattle.etp_term.specs.Terms.{tree_of}
-use Rattle.etp_term.specs.Sides.{position_of}
+use Rattle.etp_term.specs.Positions.{position_of}
 use Rattle.etp_proof.specs.declared.proof.Step.{Step}
 use Rattle.etp_proof.specs.declared.proof.Lemma.{Lemma}
 

@@ -27,7 +27,8 @@ impl Model for Label {
 impl Label {
     /// The name of these bytes; None exactly where they aren't a name.
     pub fn of(alloc: Global, bytes: &[u8]) -> Result<Option<Label>, NoMemory>
-        ensures { IfOk result (λ o. MatchOption o (IsName bytes.now → ⊥) (λ l. (l ≡ bytes.now) × IsName bytes.now)) }
+        ensures { IfOk result (λ o. MatchOption o (IsName bytes.now → ⊥)
+            (λ l. (l ≡ bytes.now) × IsName bytes.now)) }
     {
         if !is_name(bytes) {
             return Ok(None);

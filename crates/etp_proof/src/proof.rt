@@ -13,8 +13,8 @@ use std::marker::Model;
 
 /// A step of a lemma from the term before it to the term `to`, at a position, by an equation. The
 /// line 0 is the hypothesis, and line k the conclusion of lemma k, which must be an earlier one; of
-/// a step that is `cited` the line is the place of a cite, counted from 1. A step that is `reversed`
-/// reads the equation from right to left.
+/// a step that is `cited` the line is the place of a cite, counted from 1. A step that is
+/// `reversed` reads the equation from right to left.
 #[derive(Drop)]
 pub struct Step {
     pub to: Term,
@@ -98,7 +98,8 @@ pub struct Lemma {
 impl Lemma {
     /// The term after the last step, or the start where there is none.
     pub fn last_term(&self) -> &Term
-        ensures { tree_of result.now ≡ last_term (tree_of self.now.start) (map step_of self.now.steps) }
+        ensures { tree_of result.now ≡ last_term (tree_of self.now.start)
+            (map step_of self.now.steps) }
     {
         match self.steps.as_slice().last() {
             Some(step) => &step.to,
@@ -172,7 +173,8 @@ impl Lemmas {
         Ok(())
     }
 
-    /// Appends a step to the last lemma. A lemma of more than 4294967295 steps is want of memory too.
+    /// Appends a step to the last lemma. A lemma of more than 4294967295 steps is want of memory
+    /// too.
     pub fn push_step(&mut self, step: Step) -> Result<(), NoMemory>
         requires { 0 < length self.old }
         ensures ok { OnOk result (self.new ≡ with_last_step self.old step) }

@@ -2,7 +2,7 @@
 use Rattle.std.proofs.Common.{◌≡◌, ℕ, ◌<◌, ◌≤◌, arith, Bool, true, false, ◌&&◌, List, [], ◌∷◌, ◌++◌, length, take, drop, All, refl, sym, ap, subst, ◌∙◌, inl, inr, Some, None}
 use Rattle.std.proofs.lemmas.List.{take-append-drop, length-take-le}
 use Rattle.std.proofs.lemmas.List.Elements.{All-head, All-tail}
-use Rattle.etp_theory.specs.Numbered.{IsLaw}
+use Rattle.etp_theory.specs.LawNumbers.{IsLaw}
 use Rattle.etp_io.specs.Texts.{LineText, whole, too_long}
 use Rattle.etp_reading.specs.Grammars.{Grammar, OneLine}
 use Rattle.etp_reading.specs.Reading.{Reads, AreWhole, line_limit, AreListed, IsFirstUnlisted, HasNoPlace, IsBadLine, IsTooMany, IsUnfinished, AreRead, Refuses}

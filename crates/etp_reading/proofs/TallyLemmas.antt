@@ -2,7 +2,7 @@
 use Rattle.std.proofs.Common.{◌≡◌, ℕ, ◌+◌, ◌<◌, ◌≤◌, min, arith, Bool, true, false, ◌&&◌, List, [], ◌∷◌, ◌++◌, length, take, All, MatchOption, refl, sym, ap, subst, Option, Some, None, length-append}
 use Rattle.std.proofs.lemmas.List.{take_all}
 use Rattle.std.proofs.lemmas.List.Elements.{All-nil}
-use Rattle.etp_theory.specs.Numbered.{IsLaw}
+use Rattle.etp_theory.specs.LawNumbers.{IsLaw}
 use Rattle.etp_io.specs.Texts.{LineText, whole}
 use Rattle.etp_words.specs.Words.{IsBlankLine}
 use Rattle.etp_reading.specs.Grammars.{Grammar, OneLine}

@@ -1,6 +1,6 @@
 -- What is kept of the lines that were read.
 use Rattle.std.specs.Prelude.{◌≡◌, ◌+◌, ◌≤◌, ◌<◌, ℕ, Bool, true, false, ◌&&◌, min, List, length, take, Option, None, Some, All, ◌++◌, ◌∷◌}
-use Rattle.etp_theory.specs.Numbered.{IsLaw}
+use Rattle.etp_theory.specs.LawNumbers.{IsLaw}
 use Rattle.etp_io.specs.Texts.{LineText}
 use Rattle.etp_reading.specs.Grammars.{Grammar}
 use Rattle.etp_reading.specs.Reading.{Reads, AreListed, IsFirstUnlisted, IsBadLine, line_limit}

@@ -1,7 +1,7 @@
 use thiserror::Error;
 
-/// Why lines aren't a body: a fault of their form, the first by line; else the first law number that
-/// isn't listed. Lines count from 1.
+/// Why lines aren't a body: a fault of their form, the first by line; else the first law number
+/// that isn't listed. Lines count from 1.
 #[derive(Clone, Copy, Debug, PartialEq, Eq, Error)]
 pub enum BodyRefusal {
     /// The line has more than 4096 bytes, or isn't blank and can't stand in its place.

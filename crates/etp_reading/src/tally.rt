@@ -1,7 +1,7 @@
 // What is kept of the lines of a body as they are read: how many there are, the first bad one, and
 // the first law number that isn't listed.
 ghost use Rattle.std.specs.Prelude.{◌≡◌, ◌≤◌, ◌<◌, ◌+◌, ◌↔◌, IsTrue, true, false, None, Some};
-ghost use Rattle.etp_theory.specs.Numbered.{IsLaw};
+ghost use Rattle.etp_theory.specs.LawNumbers.{IsLaw};
 ghost use Rattle.etp_reading.specs.Reading.{line_limit};
 ghost use Rattle.etp_reading.specs.Tallies.{HasFirst, Judges, lines_then, unlisted_then};
 

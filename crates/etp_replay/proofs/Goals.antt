@@ -2,13 +2,13 @@
 use Rattle.std.proofs.Common.{◌≡◌, ◌⊎◌, inl, inr, ℕ, ◌+◌, List, Option, Some, None, IsSome, unwrap_or, refl, sym, ap, ap₂, ◌∙◌, subst, arith, add_comm}
 use Rattle.etp_theory.specs.Trees.{Tree, var, op, ops, law_ops, renamed, law_renamed, exchanged, Equation}
 use Rattle.etp_theory.specs.Sameness.{Same}
-use Rattle.etp_laws.specs.Listing.{IsTheList, trivial}
-use Rattle.etp_theory.specs.Numbered.{law_numbered}
+use Rattle.etp_laws.specs.Listing.{IsTheList, reflexive_law}
+use Rattle.etp_theory.specs.LawNumbers.{law_numbered}
 use Rattle.etp_laws.specs.LawLists.{LawList, IsNumberOf}
-use Rattle.etp_laws.specs.Numbers.{IsNumbered}
+use Rattle.etp_laws.specs.NumberAnswers.{IsNumberAnswer}
 use Rattle.etp_laws.specs.declared.laws.Numbered.{Numbered}
 use Rattle.etp_laws.specs.declared.laws.Numbered.TheVariants.{Is, Trivial, TooManyOps}
-use Rattle.etp_laws.proofs.Trivial.{none_same}
+use Rattle.etp_laws.proofs.ReflexiveLaw.{none_same}
 use Rattle.etp_laws.proofs.Entries.{Listed-entry, small_entry}
 use Rattle.etp_replay.specs.Validity.{law_at}
 
@@ -29,13 +29,13 @@ same_ops p q s = go s.2
 pub listed_law : (laws : List Equation) (n : ℕ) → IsSome (law_numbered laws n) → law_numbered laws n ≡ Some (law_at laws n)
 listed_law laws n h = go (law_numbered laws n) h
   where
-    go : (o : Option Equation) → IsSome o → o ≡ Some (unwrap_or o trivial)
+    go : (o : Option Equation) → IsSome o → o ≡ Some (unwrap_or o reflexive_law)
     go None k = absurd (cc)
     go (Some e) k = refl
 
 module _ (l : LawList) (is : IsTheList l.order l.equations) (one : (k : ℕ) (laws : List Equation) (p : Equation) (n m : ℕ) → IsTheList k laws → IsNumberOf laws p n → IsNumberOf laws p m → n ≡ m) where
   -- what has another number than the goal isn't the same law
-  pub other_law : (p : Equation) (goal : ℕ) (found : Numbered) → IsSome (law_numbered l.equations goal) → IsNumbered l p found → (found ≡ Is goal → ⊥) → Same p (law_at l.equations goal) → ⊥
+  pub other_law : (p : Equation) (goal : ℕ) (found : Numbered) → IsSome (law_numbered l.equations goal) → IsNumberAnswer l p found → (found ≡ Is goal → ⊥) → Same p (law_at l.equations goal) → ⊥
   other_law p goal (Is n) h k a s = a (ap Is (one l.order l.equations p n goal is k.2 (record { entry = law_at l.equations goal; stands = listed_law l.equations goal h; same = s })))
   other_law p goal Trivial h k a s = none_same p k.1.0 k.1.1 (law_at l.equations goal) (Listed-entry l.order l.equations goal (law_at l.equations goal) is (listed_law l.equations goal h)) s
   other_law p goal (TooManyOps n) h k a s =

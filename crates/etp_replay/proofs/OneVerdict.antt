@@ -5,7 +5,7 @@ use Rattle.etp_theory.specs.Sameness.{Same}
 use Rattle.etp_theory.specs.Proofs.{ProofStep, Lemma, last_term, conclusion, conclusions, IsRightStep, AreRightSteps, AreRightLemmas, IsValidProof}
 use Rattle.etp_laws.specs.Listing.{IsTheList}
 use Rattle.etp_laws.specs.LawLists.{LawList, HasNumber, IsTrivial}
-use Rattle.etp_laws.specs.Numbers.{IsNumbered}
+use Rattle.etp_laws.specs.NumberAnswers.{IsNumberAnswer}
 use Rattle.etp_laws.specs.declared.laws.Numbered.{Numbered}
 use Rattle.etp_laws.specs.declared.laws.Numbered.TheVariants.{Is, Trivial, TooManyOps}
 use Rattle.etp_laws.proofs.DualNumbers.{one_number_of}
@@ -94,7 +94,7 @@ has_or_trivial p (inl h) k = absurd (h k.0)
 has_or_trivial p (inr h) k = absurd (k.1 h.0 h.1)
 
 module _ (l : LawList) where
-  one_answer : (p : Equation) (n m : Numbered) → IsTheList l.order l.equations → IsNumbered l p n → IsNumbered l p m → n ≡ m
+  one_answer : (p : Equation) (n m : Numbered) → IsTheList l.order l.equations → IsNumberAnswer l p n → IsNumberAnswer l p m → n ≡ m
   one_answer p (Is n) (Is m) is h k = ap Is (one_number_of l.order l.equations p n m is h.2 k.2)
   one_answer p (Is n) Trivial is h k = has_or_trivial p h.1 k.1
   one_answer p (Is n) (TooManyOps m) is h k = absurd (omega (arith, h.0, k.0))
@@ -105,7 +105,7 @@ module _ (l : LawList) where
   one_answer p (TooManyOps n) Trivial is h k = absurd (omega (arith, h.0, k.0))
   one_answer p (TooManyOps n) (TooManyOps m) is h k = ap TooManyOps (h.1 ∙ sym k.1)
 
-  other_found : (p goal : Equation) (r : ReplayRefusal) → IsOtherLaw l p goal r → (n : Numbered) × (r ≡ GoalDiffers n) × IsNumbered l p n × (Same p goal → ⊥)
+  other_found : (p goal : Equation) (r : ReplayRefusal) → IsOtherLaw l p goal r → (n : Numbered) × (r ≡ GoalDiffers n) × IsNumberAnswer l p n × (Same p goal → ⊥)
   other_found p goal (GoalDiffers n) o = (n, refl, o.0, o.1)
   other_found p goal (Reference a b n) o = absurd o
   other_found p goal (Citation a b n) o = absurd o
@@ -120,7 +120,7 @@ module _ (l : LawList) where
         let f = other_found (conclusion x.final) goal r x.other in
         let g = other_found (conclusion y.final) goal s y.other in
         let final : y.final ≡ x.final = some_is _ y.final x.final y.last x.last in
-        let found = subst (λ (z : Lemma). IsNumbered l (conclusion z) g.0) final g.2 in
+        let found = subst (λ (z : Lemma). IsNumberAnswer l (conclusion z) g.0) final g.2 in
         f.1 ∙ ap GoalDiffers (one_answer (conclusion x.final) f.0 g.0 is f.2 found) ∙ sym g.1
 
     pub same_or_other : (r : ReplayRefusal) → IsOtherGoal l h goal cites ls r → IsValidProof h goal cites ls → ⊥

@@ -3,7 +3,7 @@ use Rattle.std.proofs.Common.{◌≡◌, ◌↔◌, Bool, IsTrue, IsSome, Option
 use Rattle.etp_theory.specs.Trees.{Tree, op}
 use Rattle.etp_theory.specs.Positions.{Side, to_left, to_right, sub_at, put_at}
 use Rattle.etp_theory.specs.Proofs.{AgreeOutside}
-use Rattle.etp_term.specs.Sides.{position_of}
+use Rattle.etp_term.specs.Positions.{position_of}
 use Rattle.etp_term.specs.declared.position.Side as Program
 
 agree_left : (p : List Side) (a b c d : Tree) → AgreeOutside p a c → b ≡ d → AgreeOutside (to_left ∷ p) (op a b) (op c d)

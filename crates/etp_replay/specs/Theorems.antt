@@ -11,7 +11,7 @@ use Rattle.etp_replay.specs.Validity.{IsOtherGoal, IsFirstOffence}
 use Rattle.etp_replay.specs.declared.checking.StepCheck.{StepCheck}
 use Rattle.etp_replay.specs.declared.refusal.ReplayRefusal.{ReplayRefusal}
 
-pub record ReplayLaws : Type 0 where
+pub record ReplayTheorems : Type 0 where
   -- a step is right, or fails in one way
   pub one_step_check : (e : Equation) (position : List Side) (s t : Tree) (found other : StepCheck)
       → IsStepCheck e position s t found → IsStepCheck e position s t other → found ≡ other

@@ -3,10 +3,10 @@ use Rattle.std.specs.Prelude.{◌≡◌, ◌-◌, ◌⊎◌, ℕ, List, [], All,
 use Rattle.etp_theory.specs.Trees.{Equation}
 use Rattle.etp_theory.specs.Sameness.{Same}
 use Rattle.etp_theory.specs.Proofs.{Lemma, conclusion, AreRightLemmas, IsValidProof}
-use Rattle.etp_laws.specs.Listing.{trivial}
-use Rattle.etp_theory.specs.Numbered.{law_numbered}
+use Rattle.etp_laws.specs.Listing.{reflexive_law}
+use Rattle.etp_theory.specs.LawNumbers.{law_numbered}
 use Rattle.etp_laws.specs.LawLists.{LawList}
-use Rattle.etp_laws.specs.Numbers.{IsNumbered}
+use Rattle.etp_laws.specs.NumberAnswers.{IsNumberAnswer}
 use Rattle.etp_proof.specs.Lemmas.{lemma_of}
 use Rattle.etp_replay.specs.Replay.{IsFirstWrong}
 use Rattle.etp_proof.specs.declared.proof.Proof.{Proof}
@@ -15,7 +15,7 @@ use Rattle.etp_replay.specs.declared.refusal.ReplayRefusal.TheVariants.{GoalDiff
 
 -- law n; for a number that isn't listed, `x = x`
 abbrev pub law_at : List Equation → ℕ → Equation
-law_at laws n = unwrap_or (law_numbered laws n) trivial
+law_at laws n = unwrap_or (law_numbered laws n) reflexive_law
 
 -- the proof is valid with the laws of the cited numbers: all numbers are listed, one is cited for each
 -- cite, every step is right, and the last lemma concludes the goal
@@ -29,7 +29,7 @@ pub record IsValid (laws : List Equation) (proof : Proof) (cited : List ℕ) : T
 
 -- another law than the goal was found, and the refusal has its number or why it has none
 abbrev pub IsOtherLaw : LawList → Equation → Equation → ReplayRefusal → Type 0
-IsOtherLaw l found goal (GoalDiffers number) = IsNumbered l found number × (Same found goal → ⊥)
+IsOtherLaw l found goal (GoalDiffers number) = IsNumberAnswer l found number × (Same found goal → ⊥)
 IsOtherLaw l found goal _ = ⊥
 
 -- all steps are right, and the last lemma concludes another law than the goal

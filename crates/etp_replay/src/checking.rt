@@ -3,7 +3,7 @@ ghost use Rattle.etp_theory.specs.Positions.{sub_at};
 ghost use Rattle.etp_theory.specs.Proofs.{AgreeOutside, as_read, conclusion};
 ghost use Rattle.etp_term.specs.Terms.{tree_of};
 ghost use Rattle.etp_term.specs.Laws.{equation_of};
-ghost use Rattle.etp_term.specs.Sides.{position_of};
+ghost use Rattle.etp_term.specs.Positions.{position_of};
 ghost use Rattle.etp_proof.specs.Lemmas.{lemma_of};
 ghost use Rattle.etp_replay.specs.Lines.{sides_of};
 ghost use Rattle.etp_replay.specs.Steps.{IsStepCheck};
@@ -74,7 +74,9 @@ pub fn check_step<'p>(
     equation: &Law,
     step: &'p Step,
 ) -> Result<StepCheck, NoMemory>
-    ensures { IfOk result (λ c. IsStepCheck (as_read step.now.reversed (equation_of equation.now)) (position_of step.now.position) (tree_of from.now) (tree_of step.now.to) c) }
+    ensures { IfOk result
+        (λ c. IsStepCheck (as_read step.now.reversed (equation_of equation.now))
+        (position_of step.now.position) (tree_of from.now) (tree_of step.now.to) c) }
 {
     let mut bindings = Bindings::empty(alloc)?;
     let sides = Sides::of(equation).read_as(step.reversed);
@@ -88,7 +90,8 @@ pub(crate) fn test_step<'p>(
     step: &'p Step,
     bindings: &mut Bindings<'p>,
 ) -> StepCheck
-    ensures { IsStepCheck (sides_of sides.entry) (position_of step.now.position) (tree_of from.now) (tree_of step.now.to) result }
+    ensures { IsStepCheck (sides_of sides.entry) (position_of step.now.position) (tree_of from.now)
+        (tree_of step.now.to) result }
 {
     match (from.at(&step.position), step.to.at(&step.position)) {
         (Some(before), Some(after)) => {
@@ -110,7 +113,10 @@ pub(crate) fn test_step<'p>(
 
 /// Whether both terms agree outside a position that both have.
 fn agree_outside(from: &Term, to: &Term, sides: &[Side]) -> bool
-    ensures { IsSome (sub_at (position_of sides.now) (tree_of from.now)) → IsSome (sub_at (position_of sides.now) (tree_of to.now)) → (IsTrue result ↔ AgreeOutside (position_of sides.now) (tree_of from.now) (tree_of to.now)) }
+    ensures { IsSome (sub_at (position_of sides.now) (tree_of from.now))
+        → IsSome (sub_at (position_of sides.now) (tree_of to.now))
+        → (IsTrue result ↔ AgreeOutside (position_of sides.now) (tree_of from.now)
+        (tree_of to.now)) }
 {
     match sides.split_first() {
         None => true,

@@ -4,7 +4,7 @@ ghost use Rattle.etp_theory.specs.Derivations.{Derives};
 ghost use Rattle.etp_theory.specs.Proofs.{conclusion, AllDerived};
 ghost use Rattle.etp_term.specs.Laws.{equation_of};
 ghost use Rattle.etp_laws.specs.Listing.{IsTheList};
-ghost use Rattle.etp_theory.specs.Numbered.{law_numbered};
+ghost use Rattle.etp_theory.specs.LawNumbers.{law_numbered};
 ghost use Rattle.etp_proof.specs.Lemmas.{lemma_of};
 ghost use Rattle.etp_replay.specs.Lines.{cites_of};
 ghost use Rattle.etp_replay.specs.Validity.{law_at, IsValid, IsRefused, IsOtherLaw};
@@ -32,7 +32,10 @@ pub fn replay<'p>(
     requires cites { length cited.now ≡ length proof.now.cites }
     requires cited { All (λ n. IsSome (law_numbered laws.now.equations n)) cited.now }
     ensures valid { OnOk result (IsValid laws.now.equations proof.now cited.now) }
-    ensures derived { OnOk result (AllDerived (law_at laws.now.equations proof.now.hypothesis) (map (law_at laws.now.equations) cited.now) → Derives (law_at laws.now.equations proof.now.hypothesis) (law_at laws.now.equations proof.now.goal)) }
+    ensures derived { OnOk result (AllDerived (law_at laws.now.equations proof.now.hypothesis)
+        (map (law_at laws.now.equations) cited.now)
+        → Derives (law_at laws.now.equations proof.now.hypothesis)
+        (law_at laws.now.equations proof.now.goal)) }
     ensures err { IfErr result (λ r. IsRefused laws.now proof.now cited.now r) }
 {
     let hypothesis = listed(laws, proof.hypothesis);
@@ -60,7 +63,8 @@ fn listed(laws: &Laws, number: u32) -> &Law
 /// The laws of listed numbers.
 fn cited_laws<'p>(alloc: Global, laws: &'p Laws, cited: &[u32]) -> Result<Vec<&'p Law>, NoMemory>
     requires { All (λ n. IsSome (law_numbered laws.now.equations n)) cited.now }
-    ensures { IfOk result (λ cites. cites_of cites.items ≡ map (law_at laws.now.equations) cited.now) }
+    ensures { IfOk result (λ cites.
+        cites_of cites.items ≡ map (law_at laws.now.equations) cited.now) }
 {
     let mut cites = Vec::with_capacity(alloc, cited.len())?;
     for number in cited {
@@ -73,8 +77,10 @@ fn cited_laws<'p>(alloc: Global, laws: &'p Laws, cited: &[u32]) -> Result<Vec<&'
 fn compare_goal(alloc: Global, laws: &Laws, goal: u32, last: &Lemma) -> Result<(), ReplayRefusal>
     requires listed { IsSome (law_numbered laws.now.equations goal) }
     requires list { IsTheList laws.now.order laws.now.equations }
-    ensures ok { OnOk result (Same (conclusion (lemma_of last.now)) (law_at laws.now.equations goal)) }
-    ensures err { IfErr result (λ r. (r ≡ ReplayRefusal.NoMemory) ⊎ IsOtherLaw laws.now (conclusion (lemma_of last.now)) (law_at laws.now.equations goal) r) }
+    ensures ok { OnOk result (Same (conclusion (lemma_of last.now))
+        (law_at laws.now.equations goal)) }
+    ensures err { IfErr result (λ r. (r ≡ ReplayRefusal.NoMemory)
+        ⊎ IsOtherLaw laws.now (conclusion (lemma_of last.now)) (law_at laws.now.equations goal) r) }
 {
     let conclusion = last.conclusion(alloc)?;
     let found = laws.number(&conclusion);

@@ -1,7 +1,7 @@
 //! The replay of proofs.
 #![tactic(auto)]
 
-ghost use Rattle.etp_replay.specs.Theorems.{ReplayLaws};
+ghost use Rattle.etp_replay.specs.Theorems.{ReplayTheorems};
 
 mod checking;
 mod judging;
@@ -14,8 +14,8 @@ pub use judging::replay;
 pub use refusal::ReplayRefusal;
 
 /// A step has one finding, and a proof one verdict: it is valid, or it has one first offence.
-pub fn replay_laws()
-    ensures { ReplayLaws }
+pub fn replay_theorems()
+    ensures { ReplayTheorems }
 {}
 
 #[cfg(test)]

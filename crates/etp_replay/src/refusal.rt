@@ -5,8 +5,8 @@ use etp_laws::Numbered;
 use std::alloc::AllocError;
 use thiserror::Error;
 
-/// Why a proof is refused: the first offence in the order of its lemmas and steps. Lemmas, steps and
-/// cites count from 1.
+/// Why a proof is refused: the first offence in the order of its lemmas and steps. Lemmas, steps
+/// and cites count from 1.
 #[derive(Debug, Drop, Error)]
 pub enum ReplayRefusal {
     /// The line of the step is that of no earlier lemma.

@@ -31,7 +31,10 @@ struct Place {
 impl<'c, 'p> Lines<'c, 'p> {
     /// The equation that the step names, where there is one.
     fn named(&self, step: &Step) -> Option<Sides<'p>>
-        ensures { MatchOption result (named_equation (hypothesis_in self.now) (cites_in self.now) (earlier_in self.now) (step_of step.now) ≡ None) (λ sides. named_equation (hypothesis_in self.now) (cites_in self.now) (earlier_in self.now) (step_of step.now) ≡ Some (sides_of sides)) }
+        ensures { MatchOption result (named_equation (hypothesis_in self.now) (cites_in self.now)
+            (earlier_in self.now) (step_of step.now) ≡ None)
+            (λ sides. named_equation (hypothesis_in self.now) (cites_in self.now)
+            (earlier_in self.now) (step_of step.now) ≡ Some (sides_of sides)) }
     {
         if step.cited {
             return self.cited(step.line);
@@ -40,7 +43,8 @@ impl<'c, 'p> Lines<'c, 'p> {
     }
 
     fn cited(&self, number: u32) -> Option<Sides<'p>>
-        ensures { MatchOption result (cited_equation (cites_in self.now) number ≡ None) (λ sides. cited_equation (cites_in self.now) number ≡ Some (sides_of sides)) }
+        ensures { MatchOption result (cited_equation (cites_in self.now) number ≡ None)
+            (λ sides. cited_equation (cites_in self.now) number ≡ Some (sides_of sides)) }
     {
         if number == 0 {
             return None;
@@ -52,7 +56,10 @@ impl<'c, 'p> Lines<'c, 'p> {
     }
 
     fn line(&self, number: u32) -> Option<Sides<'p>>
-        ensures { MatchOption result (line_equation (hypothesis_in self.now) (earlier_in self.now) number ≡ None) (λ sides. line_equation (hypothesis_in self.now) (earlier_in self.now) number ≡ Some (sides_of sides)) }
+        ensures { MatchOption result (line_equation (hypothesis_in self.now)
+            (earlier_in self.now) number ≡ None)
+            (λ sides. line_equation (hypothesis_in self.now) (earlier_in self.now) number
+            ≡ Some (sides_of sides)) }
     {
         if number == 0 {
             return Some(Sides::of(self.hypothesis));
@@ -70,8 +77,11 @@ impl<'c, 'p> Lines<'c, 'p> {
         step: &'p Step,
         bindings: &mut Bindings<'p>,
     ) -> Result<(), ReplayRefusal>
-        ensures ok { OnOk result (IsRightStep (hypothesis_in self.now) (cites_in self.now) (earlier_in self.now) (tree_of from.now) (step_of step.now)) }
-        ensures err { IfErr result (λ r. IsStepRefused (hypothesis_in self.now) (cites_in self.now) (earlier_in self.now) (tree_of from.now) (step_of step.now) place.lemma place.step r) }
+        ensures ok { OnOk result (IsRightStep (hypothesis_in self.now) (cites_in self.now)
+            (earlier_in self.now) (tree_of from.now) (step_of step.now)) }
+        ensures err { IfErr result (λ r.
+            IsStepRefused (hypothesis_in self.now) (cites_in self.now) (earlier_in self.now)
+            (tree_of from.now) (step_of step.now) place.lemma place.step r) }
     {
         match self.named(step) {
             None => Err(missing(place, step)),
@@ -88,8 +98,11 @@ impl<'c, 'p> Lines<'c, 'p> {
         lemma: &'p Lemma,
         bindings: &mut Bindings<'p>,
     ) -> Result<(), ReplayRefusal>
-        ensures ok { OnOk result (AreRightSteps (hypothesis_in self.now) (cites_in self.now) (earlier_in self.now) (tree_of lemma.now.start) (map step_of lemma.now.steps)) }
-        ensures err { IfErr result (λ r. IsLemmaRefused (hypothesis_in self.now) (cites_in self.now) (earlier_in self.now) (lemma_of lemma.now) number r) }
+        ensures ok { OnOk result (AreRightSteps (hypothesis_in self.now) (cites_in self.now)
+            (earlier_in self.now) (tree_of lemma.now.start) (map step_of lemma.now.steps)) }
+        ensures err { IfErr result (λ r.
+            IsLemmaRefused (hypothesis_in self.now) (cites_in self.now) (earlier_in self.now)
+            (lemma_of lemma.now) number r) }
     {
         let mut from = &lemma.start;
         for (at, step) in lemma.steps.as_slice().iter().enumerate() {
@@ -149,8 +162,11 @@ pub(crate) fn replay_lemmas<'c, 'p>(
     bindings: &mut Bindings<'p>,
 ) -> Result<(), ReplayRefusal>
     requires { length lemmas.now < 4294967296 }
-    ensures ok { OnOk result (AreRightLemmas (equation_of hypothesis.now) (cites_of cites.now) [] (map lemma_of lemmas.now)) }
-    ensures err { IfErr result (λ r. IsFirstWrong (equation_of hypothesis.now) (cites_of cites.now) (map lemma_of lemmas.now) r) }
+    ensures ok { OnOk result (AreRightLemmas (equation_of hypothesis.now) (cites_of cites.now) []
+        (map lemma_of lemmas.now)) }
+    ensures err { IfErr result (λ r.
+        IsFirstWrong (equation_of hypothesis.now) (cites_of cites.now)
+        (map lemma_of lemmas.now) r) }
 {
     for (at, lemma) in lemmas.iter().enumerate() {
         let lines = Lines {

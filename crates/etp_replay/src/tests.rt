@@ -63,8 +63,8 @@ fn one_lemma(alloc: Global, hypothesis: u32, goal: u32, lemma: Lemma) -> Result<
     })
 }
 
-/// From x = x ◇ y two lemmas: x = x ◇ x, and x ◇ (y ◇ y) = x ◇ y by a step of the first in the right
-/// part.
+/// From x = x ◇ y two lemmas: x = x ◇ x, and x ◇ (y ◇ y) = x ◇ y by a step of the first in the
+/// right part.
 fn two_lemmas(alloc: Global, reversed: bool) -> Result<Proof, NoMemory> {
     let to = product(alloc, 0, 0)?;
     let mut steps = Steps::empty(alloc);

@@ -8,14 +8,9 @@ use Rattle.etp_closure.specs.declared.facts.Answer.TheVariants.{Implied, Refuted
 -- both answers are the same
 abbrev pub is_same : Answer → Answer → Bool
 is_same Implied Implied = true
-is_same Implied Refuted = false
-is_same Implied Unsettled = false
-is_same Refuted Implied = false
 is_same Refuted Refuted = true
-is_same Refuted Unsettled = false
-is_same Unsettled Implied = false
-is_same Unsettled Refuted = false
 is_same Unsettled Unsettled = true
+is_same _ _ = false
 
 -- how many of the numbers below a bound pass a test
 abbrev pub how_many : (ℕ → Bool) → ℕ → ℕ

@@ -8,7 +8,7 @@ use Rattle.std.proofs.lemmas.List.Elements.{Contains-append_left, Contains-appen
 use Rattle.std.proofs.lemmas.Option.{slice_get_within}
 use Rattle.std.specs.List.Sorted.{IsStrictlyIncreasing}
 use Rattle.etp_theory.specs.Trees.{Equation, law_ops}
-use Rattle.etp_theory.specs.Numbered.{law_numbered}
+use Rattle.etp_theory.specs.LawNumbers.{law_numbered}
 use Rattle.etp_laws.specs.Listing.{Listed}
 use Rattle.etp_laws.proofs.Variables.{bound-few}
 use Rattle.etp_table.specs.Tables.{Table}

@@ -2,7 +2,7 @@
 use Rattle.std.specs.Prelude.{◌≡◌, ◌↔◌, ◌==◌, ℕ, ◌<◌, List, Contains, Some, cond}
 use Rattle.std.specs.List.Sorted.{IsStrictlyIncreasing}
 use Rattle.etp_theory.specs.Trees.{Equation}
-use Rattle.etp_theory.specs.Numbered.{law_numbered}
+use Rattle.etp_theory.specs.LawNumbers.{law_numbered}
 use Rattle.etp_table.specs.Tables.{Table}
 use Rattle.etp_table.specs.Verdicts.{HoldsIn}
 use Rattle.etp_sweep.specs.declared.refusal.SweepRefusal.{SweepRefusal}

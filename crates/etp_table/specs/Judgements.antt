@@ -1,7 +1,7 @@
 -- Laws that are to hold in a table and laws that are to fail there, by their numbers.
 use Rattle.std.specs.Prelude.{◌≡◌, ◌⊎◌, ℕ, ◌<◌, ◌≤◌, List, All, Some, slice_get, take, min}
 use Rattle.etp_theory.specs.Trees.{Equation}
-use Rattle.etp_theory.specs.Numbered.{law_numbered}
+use Rattle.etp_theory.specs.LawNumbers.{law_numbered}
 use Rattle.etp_theory.specs.Tables.{HoldsInLists}
 use Rattle.etp_table.specs.Tables.{Table, times}
 use Rattle.etp_table.specs.Verdicts.{variables, assignments, limit, AgreesBefore, IsFirstFailure}

@@ -11,7 +11,7 @@ use Rattle.etp_table.specs.Judgements.{IsJudged, IsFirstOffence}
 use Rattle.etp_table.specs.declared.point.Point.{Point}
 use Rattle.etp_table.specs.declared.refusal.TableRefusal.{TableRefusal}
 
-pub record VerdictLaws : Type 0 where
+pub record VerdictTheorems : Type 0 where
   -- a law has one first failing assignment at most
   pub one_failure : (t : Table) (e : Equation) (p q : Point) (l r l' r' : ℕ)
       → IsFirstFailure t e p l r → IsFirstFailure t e q l' r'

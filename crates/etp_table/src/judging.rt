@@ -1,6 +1,6 @@
 ghost use Rattle.std.specs.Prelude.{◌≡◌, ◌≤◌, ℕ, All, IsSome, Some, IfErr, OnOk, slice_get, take};
 ghost use Rattle.etp_theory.specs.Trees.{Equation, law_ops};
-ghost use Rattle.etp_theory.specs.Numbered.{law_numbered};
+ghost use Rattle.etp_theory.specs.LawNumbers.{law_numbered};
 ghost use Rattle.etp_theory.specs.Reach.{refutes};
 ghost use Rattle.etp_theory.specs.RightFacts.{IsRightFact};
 ghost use Rattle.etp_term.specs.Laws.{equation_of};

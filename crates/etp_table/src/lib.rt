@@ -2,7 +2,7 @@
 //! hold and fail in a table.
 #![tactic(auto)]
 
-ghost use Rattle.etp_table.specs.Theorems.{VerdictLaws, TableExamples};
+ghost use Rattle.etp_table.specs.Theorems.{VerdictTheorems, TableExamples};
 
 mod compiled;
 mod instructions;
@@ -19,8 +19,8 @@ pub use table::OpTable;
 
 /// A law has one first failing assignment at most, entries one first wrong one, and laws one first
 /// offence; and there is none where all is as it is to be.
-pub fn verdict_laws()
-    ensures { VerdictLaws }
+pub fn verdict_theorems()
+    ensures { VerdictTheorems }
 {}
 
 /// A small table at which the definitions are computed.

@@ -1,4 +1,4 @@
 pub mod Terms
 pub mod Laws
-pub mod Sides
+pub mod Positions
 pub mod Growth

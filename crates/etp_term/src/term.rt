@@ -6,7 +6,7 @@ ghost use Rattle.etp_theory.specs.Positions.{sub_at};
 ghost use Rattle.etp_theory.specs.Orders.{shape_cmp};
 ghost use Rattle.etp_term.specs.Growth.{BeginsWith};
 ghost use Rattle.etp_term.specs.Terms.{tree_of};
-ghost use Rattle.etp_term.specs.Sides.{position_of};
+ghost use Rattle.etp_term.specs.Positions.{position_of};
 
 use crate::position::{Position, Side};
 use crate::word::Word;

@@ -4,7 +4,7 @@ use Rattle.std.proofs.lemmas.Bool.{cond-false}
 use Rattle.std.proofs.lemmas.Option.{some_pair_parts}
 use Rattle.etp_theory.specs.Trees.{Tree, Equation, leaves}
 use Rattle.etp_words.specs.Words.{is_blank, skip_blanks}
-use Rattle.etp_text.specs.Grammar.{AreBlanks, StartsWith, Begins, AreTokens, IsAtom, IsSide, IsLaw, variable, enclosed, alone, joined, SpellsTerm, SpellsLaw}
+use Rattle.etp_text.specs.Grammar.{AreBlanks, StartsWith, Begins, AreTokens, IsAtom, IsSide, IsEquation, variable, enclosed, alone, joined, SpellsTerm, SpellsLaw}
 use Rattle.etp_text.specs.Refusals.{side_limit, RefusesTerm, RefusesLaw, IsTermText, IsLawText, IsViable, Before, IsSyntaxAt, IsVariableAt, as_variable}
 use Rattle.etp_text.specs.Machine.{token_at, Takes, RefusesText, Stand, State, start, step, run, text_of, side_in, HasRead, HasReadAll}
 use Rattle.etp_text.specs.declared.token.Token.{Token}
@@ -74,7 +74,7 @@ term_parts ts state t h s =
     let e = same_some state (at None [] i.0) (sym h ∙ i.2) in
     ap (λ (x : State). side_in x.open_parts x.stand) e ∙ whole_stand t i.0 i.1
 
-law_parts : (ts : List Token) (state : State) (law : Equation) → run true start ts ≡ Some state → IsLaw ts law → (state.left ≡ Some law.left) × (side_in state.open_parts state.stand ≡ Some law.right)
+law_parts : (ts : List Token) (state : State) (law : Equation) → run true start ts ≡ Some state → IsEquation ts law → (state.left ≡ Some law.left) × (side_in state.open_parts state.stand ≡ Some law.right)
 law_parts ts state law h s =
     let i = law_run ts law s in
     let e = same_some state (at (Some law.left) [] i.0) (sym h ∙ i.2) in
@@ -142,7 +142,7 @@ same_law bytes p q (ts, b, s) (us, c, k) =
     let e = same_tokens bytes us ts c b in
     let i = text_run true ts (p, s) in
     let x = law_parts ts i.0 p i.1 s in
-    let y = law_parts ts i.0 q i.1 (subst (λ x. IsLaw x q) e k) in
+    let y = law_parts ts i.0 q i.1 (subst (λ x. IsEquation x q) e k) in
     ap₂ (λ l r. record { left = l; right = r }) (same_some p.left q.left (sym x.0 ∙ y.0)) (same_some p.right q.right (sym x.1 ∙ y.1))
 
 -- a text of the grammar isn't refused

@@ -8,7 +8,7 @@ use Rattle.std.proofs.lemmas.List.{take-append-le, take_all}
 use Rattle.std.proofs.lemmas.Option.{some_pair_parts}
 use Rattle.etp_words.specs.Words.{is_blank, skip_blanks}
 use Rattle.etp_text.specs.Written.{variable_name}
-use Rattle.etp_text.specs.Grammar.{AreBlanks, IsName, IsToken, IsNameOver, MayEnd, StartsWith, Begins}
+use Rattle.etp_text.specs.Grammar.{AreBlanks, IsIdentifier, IsToken, IsIdentifierOver, MayEnd, StartsWith, Begins}
 use Rattle.etp_text.specs.Machine.{name_at, behind_name, named, sign_at, token_at}
 use Rattle.etp_text.specs.declared.token.Token.{Token}
 use Rattle.etp_text.specs.declared.token.Token.TheVariants.{Opening, Closing, Equals, Operator, Variable, Unknown}
@@ -46,19 +46,19 @@ names_are_alnum (b ∷ bs) = go (is_ascii_alphanumeric b) refl (names_are_alnum 
     go true e h = (e, h)
     go false e h = tt
 
-pub name_is_over : (bs : List ℕ) → IsNameOver (behind_name bs)
+pub name_is_over : (bs : List ℕ) → IsIdentifierOver (behind_name bs)
 name_is_over [] = tt
 name_is_over (b ∷ bs) = go (is_ascii_alphanumeric b) refl (name_is_over bs)
   where
-    go : (t : Bool) → is_ascii_alphanumeric b ≡ t → IsNameOver (behind_name bs) → IsNameOver (cond t (behind_name bs) (b ∷ bs))
+    go : (t : Bool) → is_ascii_alphanumeric b ≡ t → IsIdentifierOver (behind_name bs) → IsIdentifierOver (cond t (behind_name bs) (b ∷ bs))
     go true e h = h
     go false e h = e
 
-pub over_name : (rest : List ℕ) → IsNameOver rest → (name_at rest ≡ []) × (behind_name rest ≡ rest)
+pub over_name : (rest : List ℕ) → IsIdentifierOver rest → (name_at rest ≡ []) × (behind_name rest ≡ rest)
 over_name [] h = (refl, refl)
 over_name (b ∷ bs) h = (cond-false _ _ _ h, cond-false _ _ _ h)
 
-pub name_again : (ws rest : List ℕ) → AllByRecursion IsAlnum ws → IsNameOver rest → (name_at (ws ++ rest) ≡ ws) × (behind_name (ws ++ rest) ≡ rest)
+pub name_again : (ws rest : List ℕ) → AllByRecursion IsAlnum ws → IsIdentifierOver rest → (name_at (ws ++ rest) ≡ ws) × (behind_name (ws ++ rest) ≡ rest)
 name_again [] rest a h = over_name rest h
 name_again (w ∷ ws) rest a h =
     let i = name_again ws rest a.1 h in
@@ -82,7 +82,7 @@ name_read b bs h =
     ∙ (cond-false _ _ _ (ne_eqb b 226 (λ e. omega arith)) ∙ cond-true _ _ _ h))))
 
 -- what the grammar has as a token is read as it
-named_read : (word rest : List ℕ) → IsName word → IsNameOver rest → token_at (word ++ rest) ≡ Some (named word, rest)
+named_read : (word rest : List ℕ) → IsIdentifier word → IsIdentifierOver rest → token_at (word ++ rest) ≡ Some (named word, rest)
 named_read [] rest n h = absurd n
 named_read (b ∷ ws) rest n h =
     let i = name_again ws rest n.1 h in
@@ -101,7 +101,7 @@ word_read Closing word rest e m = ap (λ w. token_at (w ++ rest)) e
 word_read Equals word rest e m = ap (λ w. token_at (w ++ rest)) e
 word_read Operator word rest e m = sign_read word rest e
 word_read (Variable v) word rest e m =
-    named_read word rest (subst IsName (sym e.1) (variable_is_name v e.0)) m ∙ ap (λ t. Some (t, rest)) (ap named e.1 ∙ variable_named v e.0)
+    named_read word rest (subst IsIdentifier (sym e.1) (variable_is_name v e.0)) m ∙ ap (λ t. Some (t, rest)) (ap named e.1 ∙ variable_named v e.0)
 word_read Unknown word rest e m = named_read word rest e.0 m ∙ ap (λ t. Some (t, rest)) (unknown_named word e.1)
 
 pub token_read : (bytes : List ℕ) (token : Token) (rest : List ℕ) → StartsWith bytes token rest → token_at bytes ≡ Some (token, rest)
@@ -121,7 +121,7 @@ named_found b bs h = record {
   whole = sym (ap (λ x. b ∷ x) (name_whole bs));
 }
   where
-    go : (t : Token) → IsNameOver (behind_name bs) → MayEnd t (behind_name bs)
+    go : (t : Token) → IsIdentifierOver (behind_name bs) → MayEnd t (behind_name bs)
     go Opening h = tt
     go Closing h = tt
     go Equals h = tt
@@ -255,7 +255,7 @@ front_of_all bytes (t ∷ ts) (u ∷ us) middle rest g h a =
     let i = front_of_all h.2 ts us middle rest (subst (λ x. Begins x ts middle) p.1 g.6) h.6 a in
     (i.0, ap₂ (λ x xs. x ∷ xs) (sym p.0) i.1, i.2)
 
-pub name_some : (word : List ℕ) → IsName word → 0 < length word
+pub name_some : (word : List ℕ) → IsIdentifier word → 0 < length word
 name_some [] n = absurd n
 name_some (b ∷ bs) n = omega arith
 
@@ -266,7 +266,7 @@ word_some Closing word e = omega (arith, ap length e)
 word_some Equals word e = omega (arith, ap length e)
 word_some Operator word (inl e) = omega (arith, ap length e)
 word_some Operator word (inr e) = omega (arith, ap length e)
-word_some (Variable v) word e = name_some word (subst IsName (sym e.1) (variable_is_name v e.0))
+word_some (Variable v) word e = name_some word (subst IsIdentifier (sym e.1) (variable_is_name v e.0))
 word_some Unknown word e = name_some word e.0
 
 pub start_longer : (start : List ℕ) (token : Token) (rest : List ℕ) → StartsWith start token rest → length rest < length start

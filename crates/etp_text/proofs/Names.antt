@@ -6,7 +6,7 @@ use Rattle.std.proofs.lemmas.Fmt.{decimal_digit, decimal_step}
 use Rattle.std.proofs.lemmas.Bool.{cond-true, cond-false}
 use Rattle.std.proofs.lemmas.Bool.Decides.{nat_tests}
 use Rattle.etp_text.specs.Written.{variable_name}
-use Rattle.etp_text.specs.Grammar.{IsName, IsToken}
+use Rattle.etp_text.specs.Grammar.{IsIdentifier, IsToken}
 use Rattle.etp_text.specs.Machine.{named, small}
 use Rattle.etp_text.specs.declared.token.Token.{Token}
 use Rattle.etp_text.specs.declared.token.Token.TheVariants.{Opening, Closing, Equals, Operator, Variable, Unknown}
@@ -33,7 +33,7 @@ pub record IsVariableName (word : List ℕ) : Type 0 where
   pub token : named word ≡ Variable number
   pub few : number < 64
   pub name : word ≡ variable_name number
-  pub is_name : IsName word
+  pub is_name : IsIdentifier word
 
 abbrev pub Named : List ℕ → Type 0
 Named word = IsVariableName word ⊎ (named word ≡ Unknown)
@@ -173,11 +173,11 @@ variable_named v h = variable_is v (named (variable_name v)) (picked 64 v all_64
 unknown_variable : {X : Type 0} (v : ℕ) → Unknown ≡ Variable v → X
 unknown_variable v h = absurd (cc)
 
-pub variable_is_name : (v : ℕ) → v < 64 → IsName (variable_name v)
+pub variable_is_name : (v : ℕ) → v < 64 → IsIdentifier (variable_name v)
 variable_is_name v h = elim (name_named (variable_name v)) [ inl n ↦ n.is_name | inr e ↦ unknown_variable v (sym e ∙ variable_named v h) ]
 
 -- the token of a name
-pub name_token : (word : List ℕ) → IsName word → IsToken word (named word)
+pub name_token : (word : List ℕ) → IsIdentifier word → IsToken word (named word)
 name_token word h = elim (name_named word) [
   | inl n ↦ subst (IsToken word) (sym n.token) (n.few, n.name)
   | inr e ↦ subst (IsToken word) (sym e) (h, λ v few same. unknown_variable v (sym e ∙ (ap named same ∙ variable_named v few)))

@@ -1,7 +1,7 @@
 -- What has been read is the front of a text of the grammar.
 use Rattle.std.proofs.Common.{◌≡◌, Bool, true, false, Option, Some, None, option_and_then, List, [], ◌∷◌, ◌++◌, refl, sym, ap, ◌∙◌, subst, append_assoc, append-nil}
 use Rattle.etp_theory.specs.Trees.{Tree, var, op}
-use Rattle.etp_text.specs.Grammar.{IsAtom, IsSide, IsLaw, variable, enclosed, alone, joined}
+use Rattle.etp_text.specs.Grammar.{IsAtom, IsSide, IsEquation, variable, enclosed, alone, joined}
 use Rattle.etp_text.specs.Refusals.{IsViable}
 use Rattle.etp_text.specs.Machine.{Stand, wanted, atom, pair, State, start, placed, step, run, text_of, side_in}
 use Rattle.etp_text.specs.declared.token.Token.{Token}
@@ -172,20 +172,20 @@ term_read ts state t h k = go state.left state.open_parts state.stand (reached f
     go left (p ∷ ps) (wanted s) r k = none_tree k
 
 pub law_read : (ts : List Token) (state : State) (l t : Tree) → run true start ts ≡ Some state → state.left ≡ Some l → side_in state.open_parts state.stand ≡ Some t
-    → IsLaw ts (record { left = l; right = t })
+    → IsEquation ts (record { left = l; right = t })
 law_read ts state l t h d k = go state.left state.open_parts state.stand (reached true ts state h) d k
   where
-    whole : (left : Option Tree) (s : Tree) → Whole (Divided true left) s ts → left ≡ Some l → Some s ≡ Some t → IsLaw ts (record { left = l; right = t })
+    whole : (left : Option Tree) (s : Tree) → Whole (Divided true left) s ts → left ≡ Some l → Some s ≡ Some t → IsEquation ts (record { left = l; right = t })
     whole None s w d k = absurd (cc)
     whole (Some m) s (us, vs, e, (ls, q, i, y), j) d k =
         let a : m ≡ l = cc in
         let b : s ≡ t = cc in
         (ls, vs, e ∙ (ap (λ x. x ++ vs) q ∙ append_assoc ls (Equals ∷ []) vs), subst (IsSide ls) a i, subst (IsSide vs) b j)
 
-    none_tree : None ≡ Some t → IsLaw ts (record { left = l; right = t })
+    none_tree : None ≡ Some t → IsEquation ts (record { left = l; right = t })
     none_tree e = absurd (cc)
 
-    go : (left : Option Tree) (parts : List (Option Tree)) (stand : Stand) → Stands (Front true left parts) stand ts → left ≡ Some l → side_in parts stand ≡ Some t → IsLaw ts (record { left = l; right = t })
+    go : (left : Option Tree) (parts : List (Option Tree)) (stand : Stand) → Stands (Front true left parts) stand ts → left ≡ Some l → side_in parts stand ≡ Some t → IsEquation ts (record { left = l; right = t })
     go left [] (atom s) (us, vs, e, f, i) d k = whole left s (us, vs, e, f, alone vs s i) d k
     go left [] (pair s) r d k = whole left s r d k
     go left [] (wanted p) r d k = none_tree k

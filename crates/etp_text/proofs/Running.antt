@@ -5,7 +5,7 @@ use Rattle.std.specs.Option.{option_map}
 use Rattle.etp_theory.specs.Trees.{Tree, op, Equation}
 use Rattle.etp_term.specs.Terms.{tree_of}
 use Rattle.etp_term.specs.declared.term.Term.{Term}
-use Rattle.etp_text.specs.Grammar.{IsAtom, IsSide, IsLaw, variable, enclosed, alone, joined}
+use Rattle.etp_text.specs.Grammar.{IsAtom, IsSide, IsEquation, variable, enclosed, alone, joined}
 use Rattle.etp_text.specs.Machine.{Stand, wanted, atom, pair, State, start, placed, divided, step, run, text_of}
 use Rattle.etp_text.specs.declared.token.Token.{Token}
 use Rattle.etp_text.specs.declared.token.Token.TheVariants.{Opening, Closing, Equals, Operator, Unknown}
@@ -76,7 +76,7 @@ term_run ts t s =
     (i.0, i.1, ap (run false start) (sym (append-nil ts)) ∙ i.2)
 
 -- a text of laws ends with the left side put aside, and the right one
-pub law_run : (ts : List Token) (law : Equation) → IsLaw ts law → (stand : Stand) × IsStand stand law.right × (run true start ts ≡ Some (at (Some law.left) [] stand))
+pub law_run : (ts : List Token) (law : Equation) → IsEquation ts law → (stand : Stand) × IsStand stand law.right × (run true start ts ≡ Some (at (Some law.left) [] stand))
 law_run ts law (ls, rs, e, l, r) =
     let i = side_run ls law.left l true None [] (Equals ∷ rs) in
     let j = side_run rs law.right r true (Some law.left) [] [] in

@@ -2,7 +2,7 @@
 use Rattle.std.proofs.Common.{◌≡◌, ℕ, ◌<◌, ◌≤◌, inr, List, [], ◌∷◌, ◌++◌, codes, refl, sym, subst, arith, append_assoc, append-nil}
 use Rattle.etp_theory.specs.Trees.{Tree, var, op, Equation, bound}
 use Rattle.etp_text.specs.Written.{sign, variable_name, written_part, written_term, written_law}
-use Rattle.etp_text.specs.Grammar.{AreBlanks, IsNameOver, Begins, IsAtom, IsSide, variable, enclosed, alone, joined, SpellsTerm, SpellsLaw}
+use Rattle.etp_text.specs.Grammar.{AreBlanks, IsIdentifierOver, Begins, IsAtom, IsSide, variable, enclosed, alone, joined, SpellsTerm, SpellsLaw}
 use Rattle.etp_text.specs.declared.token.Token.{Token}
 use Rattle.etp_text.specs.declared.token.Token.TheVariants.{Opening, Closing, Equals, Operator, Variable}
 use Rattle.etp_text.proofs.Lexing.{begins_append}
@@ -25,14 +25,14 @@ term_side (op l r) = joined (part_tokens l) l (part_tokens r) r (part_atom l) (p
 
 -- the bytes of a tree begin with its tokens, whatever blanks stand before and whatever but a name's byte behind
 abbrev pub Spelt : (Tree → List ℕ) → (Tree → List Token) → Tree → Type 0
-Spelt written tokens t = (blanks rest : List ℕ) → AreBlanks blanks → IsNameOver rest → Begins (blanks ++ (written t ++ rest)) (tokens t) rest
+Spelt written tokens t = (blanks rest : List ℕ) → AreBlanks blanks → IsIdentifierOver rest → Begins (blanks ++ (written t ++ rest)) (tokens t) rest
 
-variable_spelt : (v : ℕ) → v < 64 → (blanks rest : List ℕ) → AreBlanks blanks → IsNameOver rest → Begins (blanks ++ (variable_name v ++ rest)) (Variable v ∷ []) rest
+variable_spelt : (v : ℕ) → v < 64 → (blanks rest : List ℕ) → AreBlanks blanks → IsIdentifierOver rest → Begins (blanks ++ (variable_name v ++ rest)) (Variable v ∷ []) rest
 variable_spelt v few blanks rest a n =
     (blanks, variable_name v ++ rest, rest, a, refl, record { word = variable_name v; is_token = (few, refl); ends = n; whole = refl }, refl)
 
 pair_spelt : (l r : Tree) → Spelt written_part part_tokens l → Spelt written_part part_tokens r
-    → (blanks rest : List ℕ) → AreBlanks blanks → IsNameOver rest
+    → (blanks rest : List ℕ) → AreBlanks blanks → IsIdentifierOver rest
     → Begins (blanks ++ (written_part l ++ (sign ++ (written_part r ++ rest)))) (part_tokens l ++ Operator ∷ part_tokens r) rest
 pair_spelt l r h k blanks rest a n =
     let more : List ℕ = written_part r ++ rest in

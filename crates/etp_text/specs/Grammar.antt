@@ -12,29 +12,29 @@ abbrev pub AreBlanks : List ℕ → Type 0
 AreBlanks = AllByRecursion (λ byte. is_blank byte ≡ true)
 
 -- a letter, and then letters and digits
-abbrev pub IsName : List ℕ → Type 0
-IsName [] = ⊥
-IsName (byte ∷ bytes) =
+abbrev pub IsIdentifier : List ℕ → Type 0
+IsIdentifier [] = ⊥
+IsIdentifier (byte ∷ bytes) =
     (is_ascii_alphabetic byte ≡ true) × AllByRecursion (λ byte. is_ascii_alphanumeric byte ≡ true) bytes
 
--- the bytes are this token; a name is a variable's or that of none of the 64 variables
+-- the bytes are this token; an identifier is a variable's or that of none of the 64 variables
 abbrev pub IsToken : List ℕ → Token → Type 0
 IsToken word Opening = word ≡ codes "("
 IsToken word Closing = word ≡ codes ")"
 IsToken word Equals = word ≡ codes "="
 IsToken word Operator = (word ≡ codes "*") ⊎ (word ≡ 226 ∷ 151 ∷ 135 ∷ [])
 IsToken word (Variable v) = (v < 64) × (word ≡ variable_name v)
-IsToken word Unknown = IsName word × ((v : ℕ) → v < 64 → word ≢ variable_name v)
+IsToken word Unknown = IsIdentifier word × ((v : ℕ) → v < 64 → word ≢ variable_name v)
 
 -- no letter and no digit is at the front
-abbrev pub IsNameOver : List ℕ → Type 0
-IsNameOver [] = Unit {0}
-IsNameOver (byte ∷ bytes) = is_ascii_alphanumeric byte ≡ false
+abbrev pub IsIdentifierOver : List ℕ → Type 0
+IsIdentifierOver [] = Unit {0}
+IsIdentifierOver (byte ∷ bytes) = is_ascii_alphanumeric byte ≡ false
 
--- a token may end before these bytes: a name has all letters and digits that come
+-- a token may end before these bytes: an identifier has all letters and digits that come
 abbrev pub MayEnd : Token → List ℕ → Type 0
-MayEnd (Variable v) rest = IsNameOver rest
-MayEnd Unknown rest = IsNameOver rest
+MayEnd (Variable v) rest = IsIdentifierOver rest
+MayEnd Unknown rest = IsIdentifierOver rest
 MayEnd _ rest = Unit {0}
 
 -- the bytes are a token and the rest
@@ -63,8 +63,8 @@ mutual
         IsAtom ls l → IsAtom rs r → IsSide (ls ++ Operator ∷ rs) (op l r)
 
 -- two sides with = between them
-abbrev pub IsLaw : List Token → Equation → Type 0
-IsLaw ts law = (ls rs : List Token) × (ts ≡ ls ++ Equals ∷ rs) × IsSide ls law.left × IsSide rs law.right
+abbrev pub IsEquation : List Token → Equation → Type 0
+IsEquation ts law = (ls rs : List Token) × (ts ≡ ls ++ Equals ∷ rs) × IsSide ls law.left × IsSide rs law.right
 
 -- the bytes are these tokens, with blanks behind them or with none
 abbrev pub AreTokens : List ℕ → List Token → Type 0
@@ -74,4 +74,4 @@ abbrev pub SpellsTerm : List ℕ → Tree → Type 0
 SpellsTerm bytes term = (tokens : List Token) × AreTokens bytes tokens × IsSide tokens term
 
 abbrev pub SpellsLaw : List ℕ → Equation → Type 0
-SpellsLaw bytes law = (tokens : List Token) × AreTokens bytes tokens × IsLaw tokens law
+SpellsLaw bytes law = (tokens : List Token) × AreTokens bytes tokens × IsEquation tokens law

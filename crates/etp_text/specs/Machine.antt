@@ -41,17 +41,15 @@ three_bytes a b c =
 
 -- the token that a name is
 abbrev pub named : List ℕ → Token
-named [] = Unknown
 named (a ∷ []) = one_letter a
 named (a ∷ b ∷ []) = two_bytes a b
 named (a ∷ b ∷ c ∷ []) = three_bytes a b c
-named (a ∷ b ∷ c ∷ d ∷ more) = Unknown
+named _ = Unknown
 
 -- the sign ◇ behind its first byte
 abbrev pub sign_at : List ℕ → Option (Token × List ℕ)
-sign_at [] = None
-sign_at (a ∷ []) = None
 sign_at (a ∷ b ∷ rest) = if nat_eq a 151 && nat_eq b 135 then Some (Operator, rest) else None
+sign_at _ = None
 
 -- the token at the front, and what is behind it
 abbrev pub token_at : List ℕ → Option (Token × List ℕ)

@@ -2,7 +2,7 @@
 use Rattle.std.specs.Prelude.{ℕ, ◌+◌, ◌<◌, ◌≤◌, ◌≡◌, ◌⊎◌, false, List, [], ◌∷◌, ◌++◌, length, Result, Ok, Err}
 use Rattle.etp_theory.specs.Trees.{Tree, Equation, leaves}
 use Rattle.etp_words.specs.Words.{is_blank}
-use Rattle.etp_text.specs.Grammar.{AreBlanks, StartsWith, Begins, IsSide, IsLaw, SpellsTerm, SpellsLaw}
+use Rattle.etp_text.specs.Grammar.{AreBlanks, StartsWith, Begins, IsSide, IsEquation, SpellsTerm, SpellsLaw}
 use Rattle.etp_text.specs.declared.token.Token.{Token}
 use Rattle.etp_text.specs.declared.token.Token.TheVariants.{Variable, Unknown}
 use Rattle.etp_text.specs.declared.refusal.TextRefusal.{TextRefusal}
@@ -13,7 +13,7 @@ abbrev pub IsTermText : List Token → Type 0
 IsTermText tokens = (term : Tree) × IsSide tokens term
 
 abbrev pub IsLawText : List Token → Type 0
-IsLawText tokens = (law : Equation) × IsLaw tokens law
+IsLawText tokens = (law : Equation) × IsEquation tokens law
 
 -- some text of the grammar begins with these tokens
 abbrev pub IsViable : (List Token → Type 0) → List Token → Type 0

@@ -7,7 +7,7 @@ use Rattle.etp_text.specs.Refusals.{side_limit, RefusesTerm, RefusesLaw}
 use Rattle.etp_text.specs.declared.refusal.TextRefusal.{TextRefusal}
 use Rattle.etp_text.specs.declared.refusal.TextRefusal.TheVariants.{NoMemory}
 
-pub record TextLaws : Type 0 where
+pub record TextTheorems : Type 0 where
   -- a text spells one term, or one law
   pub one_term : (bytes : List ℕ) (s t : Tree) → SpellsTerm bytes s → SpellsTerm bytes t → s ≡ t
   pub one_law : (bytes : List ℕ) (p q : Equation) → SpellsLaw bytes p → SpellsLaw bytes q → p ≡ q

@@ -1,7 +1,7 @@
 //! Texts of terms and laws.
 #![tactic(auto)]
 
-ghost use Rattle.etp_text.specs.Theorems.{TextLaws};
+ghost use Rattle.etp_text.specs.Theorems.{TextTheorems};
 
 mod read;
 mod reading;
@@ -15,10 +15,10 @@ pub use refusal::TextRefusal;
 pub use text::Text;
 pub use write::{write_law, write_term};
 
-/// A text spells one value, the written form spells what it is written of, and what is spelled within
-/// the limit isn't refused.
-pub fn text_laws()
-    ensures { TextLaws }
+/// A text spells one value, the written form spells what it is written of, and what is spelled
+/// within the limit isn't refused.
+pub fn text_theorems()
+    ensures { TextTheorems }
 {}
 
 #[cfg(test)]

@@ -13,14 +13,15 @@ use etp_term::{Law, Term};
 use etp_words::skip_blanks;
 use std::alloc::Global;
 
-/// The term that a text spells, where it has at most 255 leaves; else the first refusal. An operator
-/// is `*` or `◇`, a variable `x`, `y`, `z`, `w`, `u`, `v` or `v6` to `v63`.
+/// The term that a text spells, where it has at most 255 leaves; else the first refusal. An
+/// operator is `*` or `◇`, a variable `x`, `y`, `z`, `w`, `u`, `v` or `v6` to `v63`.
 pub fn read_term(alloc: Global, bytes: &[u8]) -> Result<Term, TextRefusal>
     requires { length bytes.now ≤ 4096 }
     ensures spelled { IfOk result (λ t. SpellsTerm bytes.now (tree_of t)) }
     ensures small { IfOk result (λ t. leaves (tree_of t) ≤ side_limit) }
     ensures refused { IfErr result (RefusesTerm bytes.now) }
-    ensures only { (t : Tree) → SpellsTerm bytes.now t → leaves t ≤ side_limit → Gives tree_of t result }
+    ensures only { (t : Tree) → SpellsTerm bytes.now t → leaves t ≤ side_limit
+        → Gives tree_of t result }
 {
     let (reading, end) = read_text(alloc, bytes, false)?;
     let term = reading.into_side(end)?;
@@ -35,7 +36,8 @@ pub fn read_law(alloc: Global, bytes: &[u8]) -> Result<Law, TextRefusal>
     ensures left { IfOk result (λ law. leaves (tree_of law.left) ≤ side_limit) }
     ensures right { IfOk result (λ law. leaves (tree_of law.right) ≤ side_limit) }
     ensures refused { IfErr result (RefusesLaw bytes.now) }
-    ensures only { (law : Equation) → SpellsLaw bytes.now law → leaves law.left ≤ side_limit → leaves law.right ≤ side_limit → Gives equation_of law result }
+    ensures only { (law : Equation) → SpellsLaw bytes.now law → leaves law.left ≤ side_limit
+        → leaves law.right ≤ side_limit → Gives equation_of law result }
 {
     let (mut reading, end) = read_text(alloc, bytes, true)?;
     let Some(left) = reading.left.take() else {
@@ -50,7 +52,8 @@ pub fn read_law(alloc: Global, bytes: &[u8]) -> Result<Law, TextRefusal>
 /// Reads all tokens of a text, and says behind which byte the last one ends.
 fn read_text(alloc: Global, bytes: &[u8], laws: bool) -> Result<(Reading, u32), TextRefusal>
     requires { length bytes.now ≤ 4096 }
-    ensures { MatchResult result (λ r. HasReadAll laws bytes.now (state_of r.0) r.1) (RefusesText (text_of laws) bytes.now) }
+    ensures { MatchResult result (λ r.
+        HasReadAll laws bytes.now (state_of r.0) r.1) (RefusesText (text_of laws) bytes.now) }
 {
     let mut reading = Reading::start(alloc);
     let mut rest = bytes;
@@ -80,7 +83,9 @@ fn place_of(bytes: &[u8], rest: &[u8]) -> u32
 /// Refuses a side of more than 255 leaves.
 fn check_leaves(side: &Term) -> Result<(), TextRefusal>
     requires { leaves (tree_of side.now) ≤ 4096 }
-    ensures { MatchResult result (λ _. leaves (tree_of side.now) ≤ side_limit) (λ e. (e ≡ TextRefusal.TooLarge (leaves (tree_of side.now))) × (side_limit < leaves (tree_of side.now))) }
+    ensures { MatchResult result (λ _. leaves (tree_of side.now) ≤ side_limit)
+        (λ e. (e ≡ TextRefusal.TooLarge (leaves (tree_of side.now)))
+        × (side_limit < leaves (tree_of side.now))) }
 {
     let leaves = side.leaves();
     if leaves > 255 {

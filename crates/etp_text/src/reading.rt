@@ -13,8 +13,8 @@ use std::alloc::{AllocError, Global};
 use std::marker::Model;
 use std::mem;
 
-/// What stands of a side: an atom is wanted, maybe behind a part and an operator; or an atom stands;
-/// or two with an operator between.
+/// What stands of a side: an atom is wanted, maybe behind a part and an operator; or an atom
+/// stands; or two with an operator between.
 #[derive(Drop)]
 pub(crate) enum Part {
     Wanted(Option<Boxed<Term>>),
@@ -100,7 +100,9 @@ impl Reading {
         token: Token,
         at: u32,
     ) -> Result<(), TextRefusal>
-        ensures { Takes (step laws (state_of self.old) token) (step laws (state_of self.old) (as_variable token)) token at (state_of self.new) result }
+        ensures { Takes (step laws (state_of self.old) token)
+            (step laws (state_of self.old) (as_variable token)) token at
+            (state_of self.new) result }
     {
         match mem::replace(&mut self.part, Part::Wanted(None)) {
             Part::Wanted(before) => self.begin(alloc, before, token, at),
@@ -117,7 +119,10 @@ impl Reading {
         token: Token,
         at: u32,
     ) -> Result<(), TextRefusal>
-        ensures { let s = option_map tree_of self.old.left in let b = option_map tree_of before in let p = map (option_map tree_of) self.old.opened in Takes (begin_from s p b token) (begin_from s p b (as_variable token)) token at (state_of self.new) result }
+        ensures { let s = option_map tree_of self.old.left in let b = option_map tree_of before in
+            let p = map (option_map tree_of) self.old.opened in
+            Takes (begin_from s p b token) (begin_from s p b (as_variable token)) token at
+            (state_of self.new) result }
     {
         match token {
             Token::Variable(v) => self.part = placed(alloc, before, Term::Var(v))?,
@@ -140,7 +145,11 @@ impl Reading {
         token: Token,
         at: u32,
     ) -> Result<(), TextRefusal>
-        ensures { let s = option_map tree_of self.old.left in let p = map (option_map tree_of) self.old.opened in Takes (atom_from laws s p (tree_of side) token) (atom_from laws s p (tree_of side) (as_variable token)) token at (state_of self.new) result }
+        ensures { let s = option_map tree_of self.old.left in
+            let p = map (option_map tree_of) self.old.opened in
+            Takes (atom_from laws s p (tree_of side) token)
+            (atom_from laws s p (tree_of side) (as_variable token)) token at
+            (state_of self.new) result }
     {
         match token {
             Token::Operator => {
@@ -160,7 +169,11 @@ impl Reading {
         token: Token,
         at: u32,
     ) -> Result<(), TextRefusal>
-        ensures { let s = option_map tree_of self.old.left in let p = map (option_map tree_of) self.old.opened in Takes (end_from laws s p (tree_of side) token) (end_from laws s p (tree_of side) (as_variable token)) token at (state_of self.new) result }
+        ensures { let s = option_map tree_of self.old.left in
+            let p = map (option_map tree_of) self.old.opened in
+            Takes (end_from laws s p (tree_of side) token)
+            (end_from laws s p (tree_of side) (as_variable token)) token at
+            (state_of self.new) result }
     {
         match token {
             Token::Closing => self.close(alloc, side, at),
@@ -171,7 +184,9 @@ impl Reading {
 
     /// Goes past a closing parenthesis.
     fn close(&mut self, alloc: Global, side: Term, at: u32) -> Result<(), TextRefusal>
-        ensures { let next = closed (option_map tree_of self.old.left) (map (option_map tree_of) self.old.opened) (tree_of side) in Takes next next Token.Closing at (state_of self.new) result }
+        ensures { let next = closed (option_map tree_of self.old.left)
+            (map (option_map tree_of) self.old.opened) (tree_of side) in
+            Takes next next Token.Closing at (state_of self.new) result }
     {
         let Some(before) = self.opened.pop() else {
             return Err(TextRefusal::Syntax { at });
@@ -182,7 +197,9 @@ impl Reading {
 
     /// Goes past the sign between the sides of a law.
     fn divide(&mut self, laws: bool, side: Term, at: u32) -> Result<(), TextRefusal>
-        ensures { let next = divided laws (option_map tree_of self.old.left) (map (option_map tree_of) self.old.opened) (tree_of side) in Takes next next Token.Equals at (state_of self.new) result }
+        ensures { let next = divided laws (option_map tree_of self.old.left)
+            (map (option_map tree_of) self.old.opened) (tree_of side) in
+            Takes next next Token.Equals at (state_of self.new) result }
     {
         if laws && self.left.is_none() && self.opened.is_empty() {
             self.left = Some(side);
@@ -195,7 +212,10 @@ impl Reading {
 
     /// The side that stands whole; the text ends at `at`.
     pub(crate) fn into_side(self, at: u32) -> Result<Term, TextRefusal>
-        ensures { MatchResult result (λ t. side_in (map (option_map tree_of) self.opened) (stand_of self.part) ≡ Some (tree_of t)) (λ e. (e ≡ TextRefusal.Syntax at) × (side_in (map (option_map tree_of) self.opened) (stand_of self.part) ≡ None)) }
+        ensures { MatchResult result (λ t.
+            side_in (map (option_map tree_of) self.opened) (stand_of self.part) ≡ Some (tree_of t))
+            (λ e. (e ≡ TextRefusal.Syntax at)
+            × (side_in (map (option_map tree_of) self.opened) (stand_of self.part) ≡ None)) }
     {
         let Reading {
             left: _left,
@@ -215,7 +235,8 @@ impl Reading {
 
 /// An atom where one was wanted.
 fn placed(alloc: Global, before: Option<Boxed<Term>>, atom: Term) -> Result<Part, AllocError>
-    ensures { IfOk result (λ part. stand_of part ≡ placed (option_map tree_of before) (tree_of atom)) }
+    ensures { IfOk result (λ part.
+        stand_of part ≡ placed (option_map tree_of before) (tree_of atom)) }
 {
     match before {
         None => Ok(Part::Atom(atom)),

@@ -1,6 +1,6 @@
 ghost use Rattle.std.specs.Prelude.{◌≤◌, length};
 
-use crate::{Text, TextRefusal, read_law, read_term, text_laws, write_law, write_term};
+use crate::{Text, TextRefusal, read_law, read_term, text_theorems, write_law, write_term};
 use etp_term::{Law, NoMemory, Term};
 use sqlite_items::Boxed;
 use std::alloc::Global;
@@ -84,7 +84,7 @@ fn what_was_written_is_read_again(rt: HostRuntime) {
     assert!(rt; text.len() <= 4096);
     let again = read_term(rt.alloc(), text.as_slice()).expect(&rt, "a term");
     assert!(rt; again.same_term(&term));
-    text_laws();
+    text_theorems();
 }
 
 #[test]

@@ -1,4 +1,5 @@
 ghost use Rattle.std.specs.Prelude.{◌≡◌, ◌<◌, ◌++◌, ◌∷◌, [], OnOk, OnErr, length, slice_get, decimal};
+ghost use Rattle.std.specs.Fmt.{signed_decimal};
 ghost use Rattle.std.specs.Option.{option_copied};
 
 use itoa::Buffer;
@@ -83,6 +84,15 @@ impl Text {
     /// Appends the digits of a number.
     pub fn append_number(&mut self, number: u64) -> Result<(), AllocError>
         ensures ok { OnOk result (self.new ≡ self.old ++ decimal number) }
+        ensures err { OnErr result (self.new ≡ self.old) }
+    {
+        let mut buffer = Buffer::new();
+        self.append(buffer.format(number).as_bytes())
+    }
+
+    /// Appends the digits of a number, with `-` before them where it is negative.
+    pub fn append_integer(&mut self, number: i128) -> Result<(), AllocError>
+        ensures ok { OnOk result (self.new ≡ self.old ++ signed_decimal number) }
         ensures err { OnErr result (self.new ≡ self.old) }
     {
         let mut buffer = Buffer::new();

@@ -10,11 +10,12 @@ use crate::text::Text;
 use etp_term::{Law, Term};
 use std::alloc::{AllocError, Global};
 
-/// A term as it is written: ` ◇ ` between two parts, a part that is an operation in parentheses. With
-/// variables below 64 it is a text of the term.
+/// A term as it is written: ` ◇ ` between two parts, a part that is an operation in parentheses.
+/// With variables below 64 it is a text of the term.
 pub fn write_term(alloc: Global, term: &Term) -> Result<Text, AllocError>
     ensures written { IfOk result (λ text. text ≡ written_term (tree_of term.now)) }
-    ensures spells { IfOk result (λ text. bound (tree_of term.now) ≤ 64 → SpellsTerm text (tree_of term.now)) }
+    ensures spells { IfOk result (λ text. bound (tree_of term.now) ≤ 64
+        → SpellsTerm text (tree_of term.now)) }
 {
     let mut text = Text::empty(alloc);
     text.append_term(term)?;
@@ -24,7 +25,8 @@ pub fn write_term(alloc: Global, term: &Term) -> Result<Text, AllocError>
 /// A law as it is written: ` = ` between its two sides.
 pub fn write_law(alloc: Global, law: &Law) -> Result<Text, AllocError>
     ensures written { IfOk result (λ text. text ≡ written_law (equation_of law.now)) }
-    ensures spells { IfOk result (λ text. bound (tree_of law.now.left) ≤ 64 → bound (tree_of law.now.right) ≤ 64 → SpellsLaw text (equation_of law.now)) }
+    ensures spells { IfOk result (λ text. bound (tree_of law.now.left) ≤ 64
+        → bound (tree_of law.now.right) ≤ 64 → SpellsLaw text (equation_of law.now)) }
 {
     let mut text = Text::empty(alloc);
     text.append_law(law)?;

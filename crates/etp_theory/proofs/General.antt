@@ -7,7 +7,7 @@ use Rattle.etp_theory.specs.Overlaps.{Overlap, outer_part, inner_part}
 use Rattle.etp_theory.specs.FailingOverlaps.{IsCriticalPair, KeepsApart}
 use Rattle.etp_theory.proofs.Trees.{composed}
 use Rattle.etp_theory.proofs.Matching.{apply_agree}
-use Rattle.etp_theory.specs.Theorems.{UnificationLaws}
+use Rattle.etp_theory.specs.Theorems.{UnificationTheorems}
 use Rattle.etp_theory.proofs.Finite.{finite_enough}
 use Rattle.etp_theory.proofs.Unifiers.{Mgu, mgu, unify, general, best_of, limit, finite, partial_of, total_of, partial_mgu, apply_same, occurs_bound, occurs_dec, eq_or_ne}
 use Rattle.etp_theory.proofs.Sameness.{renamed_applied}
@@ -53,7 +53,7 @@ decided a b (inl p) =
     inl (partial_of p.by (limit a b), partial_mgu a b p, λ v. ap (apply (total (partial_of p.by (limit a b)))) (t v) ∙ apply_same _ p.by t (p.by v) ∙ p.absorbed p.by p.unifies v ∙ sym (t v))
 decided a b (inr h) = inr h
 
-pub laws_of_unifiers : UnificationLaws
+pub laws_of_unifiers : UnificationTheorems
 laws_of_unifiers = record {
   most_general = λ a b n e. let m = mgu a b n e in (m.by, general a b m);
   partial = λ a b n e. let m = finite_enough n a b in (m.0, m.1 ∙ e ∙ sym m.2);

@@ -6,7 +6,7 @@ use Rattle.etp_theory.specs.Sameness.{Same}
 use Rattle.etp_theory.specs.Derivations.{Derives, by_law}
 use Rattle.etp_theory.specs.Proofs.{IsRightStep, IsStepBy, IsValidProof}
 use Rattle.etp_theory.specs.Reach.{Fact, implies, refutes}
-use Rattle.etp_theory.specs.Numbered.{law_numbered, dual_number, IsLaw, IsOwnInverse}
+use Rattle.etp_theory.specs.LawNumbers.{law_numbered, dual_number, IsLaw, IsOwnInverse}
 use Rattle.etp_theory.specs.RightFacts.{Refutes, IsRightFact, AreDualNumbers, AreRightFacts}
 use Rattle.etp_theory.specs.Examples.{square, idempotent, left_projection, right_projection, plain_weight}
 use Rattle.etp_theory.specs.LawExamples.{turned_projection, squared, square_lemma, squared_lemma, citing_lemma, three_laws}

@@ -4,7 +4,7 @@ use Rattle.std.proofs.Common.{arith, ◌≡◌, ℕ, ◌⊎◌, inl, inr, List, 
 use Rattle.etp_theory.specs.Trees.{Equation, law_dual}
 use Rattle.etp_theory.specs.Derivations.{Derives}
 use Rattle.etp_theory.specs.Reach.{Fact, implies, refutes, Edge, plain_edge, dual_edge, RefutingPair, plain_pair, dual_pair, Reach, itself, along, Covers}
-use Rattle.etp_theory.specs.Numbered.{law_numbered, dual_number}
+use Rattle.etp_theory.specs.LawNumbers.{law_numbered, dual_number}
 use Rattle.etp_theory.specs.RightFacts.{Implies, Refutes, AreRightFacts}
 use Rattle.etp_theory.proofs.Derivations.{derives_itself, chained, dualised, undualised}
 use Rattle.etp_theory.proofs.Sameness.{same_derives}

@@ -6,7 +6,7 @@ use Rattle.etp_theory.specs.Orders.{shape_cmp, law_cmp}
 use Rattle.etp_theory.specs.Positions.{to_right}
 use Rattle.etp_theory.specs.Sameness.{Same}
 use Rattle.etp_theory.specs.Proofs.{Lemma, line_equation, cited_equation, IsValidProof}
-use Rattle.etp_theory.specs.Numbered.{IsLaw, IsOwnInverse}
+use Rattle.etp_theory.specs.LawNumbers.{IsLaw, IsOwnInverse}
 use Rattle.etp_theory.specs.Reach.{implies, refutes}
 use Rattle.etp_theory.specs.RightFacts.{IsRightFact, AreDualNumbers, AreRightFacts}
 use Rattle.etp_theory.specs.Examples.{square, idempotent, left_projection, right_projection}

@@ -17,7 +17,7 @@ pub mod Unifiers
 pub mod Overlaps
 pub mod FailingOverlaps
 pub mod Proofs
-pub mod Numbered
+pub mod LawNumbers
 pub mod Reach
 pub mod RightFacts
 pub mod Theorems

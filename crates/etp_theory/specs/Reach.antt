@@ -1,6 +1,6 @@
 -- What accepted proofs and refutations say of law numbers, and what follows for all pairs.
 use Rattle.std.specs.Prelude.{◌≡◌, ℕ, List, Contains}
-use Rattle.etp_theory.specs.Numbered.{dual_number}
+use Rattle.etp_theory.specs.LawNumbers.{dual_number}
 
 -- what one file says: its hypothesis implies its goal,
 -- or no law of the first list implies a law of the second

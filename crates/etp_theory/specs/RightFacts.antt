@@ -1,7 +1,7 @@
 -- What makes accepted facts right, over a list of laws and the numbers of their duals.
 use Rattle.std.specs.Prelude.{◌≡◌, ℕ, List, Contains, Some}
 use Rattle.etp_theory.specs.Trees.{Equation, law_dual}
-use Rattle.etp_theory.specs.Numbered.{law_numbered, dual_number}
+use Rattle.etp_theory.specs.LawNumbers.{law_numbered, dual_number}
 use Rattle.etp_theory.specs.Sameness.{Same}
 use Rattle.etp_theory.specs.Derivations.{Derives}
 use Rattle.etp_theory.specs.Reach.{Fact, implies, refutes}

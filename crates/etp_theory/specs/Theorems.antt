@@ -23,10 +23,10 @@ use Rattle.etp_theory.specs.Overlaps.{Overlap, outer_part, inner_part, left_resu
 use Rattle.etp_theory.specs.FailingOverlaps.{PositionBefore, Place, place, PlaceBefore, IsCriticalPair, KeepsApart, Finding, IsFinding, finding_under, FailsBy, IsFirstFailing}
 use Rattle.etp_theory.specs.Proofs.{IsStepBy, Lemma, conclusion, AreRightLemmas, IsValidProof, AllDerived}
 use Rattle.etp_theory.specs.Reach.{Fact, Reach, Covers}
-use Rattle.etp_theory.specs.Numbered.{law_numbered}
+use Rattle.etp_theory.specs.LawNumbers.{law_numbered}
 use Rattle.etp_theory.specs.RightFacts.{AreRightFacts}
 
-pub record TermLaws : Type 0 where
+pub record TermTheorems : Type 0 where
   pub leaves_ops : (t : Tree) → leaves t ≡ ops t + 1
   pub shape_counts : (t : Tree) → shape_ops (shape_of t) ≡ ops t
   pub word_length : (t : Tree) → length (word_of t) ≡ leaves t
@@ -34,13 +34,13 @@ pub record TermLaws : Type 0 where
   pub shape_and_word : (s t : Tree) → shape_of s ≡ shape_of t → word_of s ≡ word_of t → s ≡ t
 
 -- the orders of shapes and of laws are total, and only equal ones compare as equal
-pub record OrderLaws : Type 0 where
+pub record OrderTheorems : Type 0 where
   pub shape_order : IsTotalOrder shape_cmp
   pub shape_equal : (s t : Shape) → shape_cmp s t ≡ Equal → s ≡ t
   pub law_order : IsTotalOrder law_cmp
   pub law_equal : (p q : Equation) → law_cmp p q ≡ Equal → p ≡ q
 
-pub record SubstitutionLaws : Type 0 where
+pub record SubstitutionTheorems : Type 0 where
   pub composed : (s t : ℕ → Tree) (u : Tree) → apply t (apply s u) ≡ apply (then_apply s t) u
   pub identity : (u : Tree) → apply var u ≡ u
   pub renaming : (f : ℕ → ℕ) (u : Tree) → renamed f u ≡ apply (λ v. var (f v)) u
@@ -48,7 +48,7 @@ pub record SubstitutionLaws : Type 0 where
   pub finite_enough : (m : ℕ → Tree) (p q : Tree)
       → (s : Partial) × (apply (total s) p ≡ apply m p) × (apply (total s) q ≡ apply m q)
 
-pub record PositionLaws : Type 0 where
+pub record PositionTheorems : Type 0 where
   pub sub_at_applied : (p : List Side) (s : ℕ → Tree) (t u : Tree)
       → sub_at p t ≡ Some u → sub_at p (apply s t) ≡ Some (apply s u)
   pub put_at_applied : (p : List Side) (s : ℕ → Tree) (t u v : Tree)
@@ -57,19 +57,19 @@ pub record PositionLaws : Type 0 where
   pub put_at_sub : (p : List Side) (t u : Tree) → sub_at p t ≡ Some u → put_at p t u ≡ t
   pub put_at_put : (p : List Side) (t u v : Tree) → put_at p (put_at p t u) v ≡ put_at p t v
 
-pub record DualLaws : Type 0 where
+pub record DualTheorems : Type 0 where
   pub dual_dual : (t : Tree) → dual (dual t) ≡ t
   pub dual_applied : (s : ℕ → Tree) (t : Tree) → dual (apply s t) ≡ apply (λ v. dual (s v)) (dual t)
 
 -- being the same law is an equivalence, kept by duals; laws that are the same derive each other
-pub record SamenessLaws : Type 0 where
+pub record SamenessTheorems : Type 0 where
   pub reflexive : (p : Equation) → Same p p
   pub symmetric : (p q : Equation) → Same p q → Same q p
   pub transitive : (p q r : Equation) → Same p q → Same q r → Same p r
   pub dualised : (p q : Equation) → Same p q → Same (law_dual p) (law_dual q)
   pub derived : (p q : Equation) → Same p q → Derives p q × Derives q p
 
-pub record DerivationLaws : Type 0 where
+pub record DerivationTheorems : Type 0 where
   pub itself : (e : Equation) → Derives e e
   pub substituted : (e : Equation) (p q : Tree) (s : ℕ → Tree)
       → Concludes e p q → Concludes e (apply s p) (apply s q)
@@ -84,7 +84,7 @@ pub record DerivationLaws : Type 0 where
   pub finite : (e : Equation) (p q : Tree) → Concludes e p q ↔ ConcludesPartial e p q
 
 -- lemmas, steps and cited laws unfold into derivations
-pub record ProofLaws : Type 0 where
+pub record ProofTheorems : Type 0 where
   -- the substitution of a right step may be taken as a finite partial map
   pub partial : (e : Equation) (p : List Side) (s t : Tree) → IsStepBy e p s t
       → (m : Partial) × (sub_at p s ≡ Some (apply (total m) e.left))
@@ -100,7 +100,7 @@ pub record ProofLaws : Type 0 where
       → AllDerived hypothesis cites → IsValidProof hypothesis goal cites lemmas
       → Derives hypothesis goal
 
-pub record MagmaLaws : Type 0 where
+pub record MagmaTheorems : Type 0 where
   -- at one type of values: a clause can't range over types
   pub sound : (inside : ℕ → Bool) (times : ℕ → ℕ → ℕ) → IsClosed inside times
       → (e f : Equation) → Holds inside times e.left e.right → Derives e f
@@ -111,7 +111,7 @@ pub record MagmaLaws : Type 0 where
       → (r : ℕ → ℕ) → ((v : ℕ) → IsTrue (inside (r v)))
       → meaning times r f.left ≢ meaning times r f.right → Derives e f → ⊥
 
-pub record TableLaws : Type 0 where
+pub record TableTheorems : Type 0 where
   -- the lexicographic order of assignments is that of their places, which are the numbers below
   -- the power
   pub place_below : (k n : ℕ) (xs : List ℕ) → IsAssignment k n xs → place_of n xs < n ^ k
@@ -130,7 +130,7 @@ pub record TableLaws : Type 0 where
       → meaning times (assigned xs) e.left ≢ meaning times (assigned xs) e.right
       → Holds (below n) times e.left e.right → ⊥
 
-pub record WeightLaws : Type 0 where
+pub record WeightTheorems : Type 0 where
   -- a weight is so much for each variable and a constant
   pub by_coefficients : (w : Weight) (f : ℕ → ℕ) (n : ℕ) (t : Tree) → bound t ≤ n
       → weigh w f t ≡ sum_to n (λ x. coefficient w t x * f x) + constant w t
@@ -140,7 +140,7 @@ pub record WeightLaws : Type 0 where
   pub kept : (w : Weight) (e : Equation) → 0 < w.on_left → 0 < w.on_right → IsDecreasing w e
       → (v : ℕ) → Occurs v e.right → Occurs v e.left
 
-pub record RewritingLaws : Type 0 where
+pub record RewritingTheorems : Type 0 where
   pub by_position : (rules : List Equation) (s t : Tree) → Step rules s t ↔ StepAt rules s t
   -- the substitution may be taken as a finite partial map
   pub partial : (rules : List Equation) (s t : Tree) (h : StepAt rules s t)
@@ -150,7 +150,7 @@ pub record RewritingLaws : Type 0 where
       → (f : ℕ → ℕ) (s t : Tree) → Step rules s t → weigh w f t < weigh w f s
 
 -- the strategy takes a step exactly where there is one, and the walk ends
-pub record StrategyLaws : Type 0 where
+pub record StrategyTheorems : Type 0 where
   pub taken : (rules : List Equation) (s t : Tree) → next rules s ≡ Some t → Step rules s t
   pub none_left : (rules : List Equation) (s t : Tree) → next rules s ≡ None → Step rules s t → ⊥
   pub reached : (w : Weight) (rules : List Equation) → AllDecrease w rules
@@ -185,7 +185,7 @@ pub record StrategyLaws : Type 0 where
   pub tried_total : (p q : List Side) → (p ≡ q) ⊎ (TriedBefore p q ⊎ TriedBefore q p)
 
 -- the limits of a walk: 100000 steps, and terms of 512 leaves
-pub record LimitLaws : Type 0 where
+pub record LimitTheorems : Type 0 where
   -- a form is reached by at most that many steps, and no term on the way has more leaves
   pub form : (rules : List Equation) (s u : Tree) → IsFormOf rules s u
       ↔ ((n : ℕ) × (n ≤ 100000) × (walk rules n s ≡ u) × (next rules u ≡ None)
@@ -200,7 +200,7 @@ pub record LimitLaws : Type 0 where
 
 -- decreasing rules that are locally confluent give one normal form (Newman 1942); `next` has no step
 -- of a term exactly where none is there, so this is the form of the strategy's walk
-pub record NewmanLaws : Type 0 where
+pub record NewmanTheorems : Type 0 where
   pub confluent : (w : Weight) (rules : List Equation) → AllDecrease w rules
       → IsLocallyConfluent rules
       → (s a b : Tree) → Steps rules s a → Steps rules s b → Joinable rules a b
@@ -212,7 +212,7 @@ pub record NewmanLaws : Type 0 where
       → IsLocallyConfluent rules
       → (s t : Tree) → Convertible rules s t → normal_form w rules s ≡ normal_form w rules t
 
-pub record UnificationLaws : Type 0 where
+pub record UnificationTheorems : Type 0 where
   pub most_general : (a b : Tree) (n : ℕ → Tree) → apply n a ≡ apply n b
       → (m : ℕ → Tree) × IsMostGeneral m a b
   -- where some total substitution unifies, some finite partial map does
@@ -232,7 +232,7 @@ pub record UnificationLaws : Type 0 where
   pub has_best : (a b : Tree) (n : ℕ → Tree) → apply n a ≡ apply n b
       → (m : ℕ → Tree) × IsBest m a b
 
-pub record CriticalPairLaws : Type 0 where
+pub record CriticalPairTheorems : Type 0 where
   pub joined : (w : Weight) (rules : List Equation) → AllDecrease w rules
       → HasSmallVariables rules → PairsJoin rules → IsLocallyConfluent rules
   pub convergent : (w : Weight) (rules : List Equation) → IsConvergent w rules
@@ -250,7 +250,7 @@ pub record CriticalPairLaws : Type 0 where
       → HaveOneForm rules (left_result o (total m')) (right_result o (total m'))
 
 -- the order of overlaps, and the first one that fails
-pub record OverlapLaws : Type 0 where
+pub record OverlapTheorems : Type 0 where
   -- the order of places is strict and total
   pub irreflexive : (x : Place) → PlaceBefore x x → ⊥
   pub transitive : (x y z : Place) → PlaceBefore x y → PlaceBefore y z → PlaceBefore x z
@@ -290,7 +290,7 @@ pub record OverlapLaws : Type 0 where
       → (place o ≡ place o') × ((k : ℕ → Tree) × (finding_under k f ≡ f'))
 
 -- the normal forms of a convergent system are a magma
-pub record NormalFormLaws : Type 0 where
+pub record NormalFormTheorems : Type 0 where
   pub closed : (w : Weight) (rules : List Equation) → IsConvergent w rules
       → IsClosed (is_normal rules) (normal_op w rules)
   pub holds : (w : Weight) (rules : List Equation) → IsConvergent w rules → (e : Equation)
@@ -306,7 +306,7 @@ pub record NormalFormLaws : Type 0 where
       → Derives e f → ⊥
 
 -- right facts: what is reached is derived, what is covered isn't, and no pair is both
-pub record ReachLaws : Type 0 where
+pub record ReachTheorems : Type 0 where
   pub derived : (laws : List Equation) (duals : List ℕ) (facts : List Fact)
       → AreRightFacts laws duals facts → (e f : ℕ) (p q : Equation)
       → law_numbered laws e ≡ Some p → law_numbered laws f ≡ Some q

@@ -17,5 +17,5 @@ abbrev pub is_number : List ℕ → Bool
 is_number word = list_all is_digit word && nat_le 1 (length word) && nat_le (length word) 10 && nat_le (value_after 0 word) 4294967295
 
 -- the number that the word is
-abbrev pub number_of : List ℕ → Option ℕ
-number_of word = if is_number word then Some (value_after 0 word) else None
+abbrev pub number_said : List ℕ → Option ℕ
+number_said word = if is_number word then Some (value_after 0 word) else None

@@ -1,9 +1,9 @@
 ghost use Rattle.std.specs.Prelude.{◌≡◌};
-ghost use Rattle.etp_words.specs.Numbers.{number_of};
+ghost use Rattle.etp_words.specs.Numbers.{number_said};
 
 /// The number that the word is: one to ten decimal digits with a value below 2^32.
 pub fn number_word(word: &[u8]) -> Option<u32>
-    ensures { result ≡ number_of word.now }
+    ensures { result ≡ number_said word.now }
 {
     if word.is_empty() || word.len() > 10 {
         return None;

@@ -40,7 +40,8 @@ fn word_end(line: &[u8]) -> usize
 
 /// The first word and what stands behind it.
 pub fn next_word(line: &[u8]) -> Option<(&[u8], &[u8])>
-    ensures words { MatchOption result (words_of line.now ≡ []) (λ p. words_of line.now ≡ p.0.now ∷ words_of p.1.now) }
+    ensures words { MatchOption result (words_of line.now ≡ [])
+        (λ p. words_of line.now ≡ p.0.now ∷ words_of p.1.now) }
     ensures rest { IfSome result (λ p. p.1.now ≡ behind_word line.now) }
     ensures within { IfSome result (λ p. length p.1.now ≤ length line.now) }
     ensures short { IfSome result (λ p. length p.0.now ≤ length line.now) }
@@ -55,7 +56,9 @@ pub fn next_word(line: &[u8]) -> Option<(&[u8], &[u8])>
 
 /// What stands behind the first word, where that is this one.
 pub fn behind<'a>(line: &'a [u8], name: &str) -> Option<&'a [u8]>
-    ensures words { MatchOption result ((more : List (List ℕ)) → words_of line.now ≡ name.now ∷ more → ⊥) (λ rest. words_of line.now ≡ name.now ∷ words_of rest.now) }
+    ensures words { MatchOption result
+        ((more : List (List ℕ)) → words_of line.now ≡ name.now ∷ more → ⊥)
+        (λ rest. words_of line.now ≡ name.now ∷ words_of rest.now) }
     ensures rest { IfSome result (λ rest. rest.now ≡ behind_word line.now) }
     ensures within { IfSome result (λ rest. length rest.now ≤ length line.now) }
 {

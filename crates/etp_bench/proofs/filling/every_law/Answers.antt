@@ -1,6 +1,6 @@
 use Rattle.std.proofs.Common.{◌+◌, All, Contains, subst, sym, arith}
 use Rattle.std.proofs.lemmas.List.Elements.{All-push}
-use Rattle.etp_theory.specs.Numbered.{IsLaw}
+use Rattle.etp_theory.specs.LawNumbers.{IsLaw}
 use Rattle.etp_bench.proofs.Everywhere.{one_more}
 use Rattle.etp_bench.proofs.filling.every_law.Goals as goal
 

@@ -1,5 +1,5 @@
 use Rattle.std.proofs.Common.{ℕ, All, Contains}
-use Rattle.etp_theory.specs.Numbered.{IsLaw}
+use Rattle.etp_theory.specs.LawNumbers.{IsLaw}
 use Rattle.etp_bench.proofs.filling.every_law.Given as goal
 
 abbrev pub invariant-loop-place : goal.invariant-loop-place

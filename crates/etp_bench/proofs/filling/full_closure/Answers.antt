@@ -1,5 +1,5 @@
 use Rattle.std.proofs.Common.{◌≡◌, ◌∙◌, ℕ, ap, length, sym, subst, Contains}
-use Rattle.etp_theory.specs.Numbered.{IsLaw}
+use Rattle.etp_theory.specs.LawNumbers.{IsLaw}
 use Rattle.etp_bench.proofs.Everywhere.{full_after}
 use Rattle.etp_bench.proofs.filling.full_closure.Goals as goal
 

@@ -1,7 +1,7 @@
 use Rattle.std.proofs.Common.{◌≡◌, ◌<◌, ◌⊎◌, ℕ, List, inl, inr, get_or, subst, sym, refl, arith}
 use Rattle.std.proofs.lemmas.List.{get_or_default}
 use Rattle.std.proofs.lemmas.Bool.{cases_eq}
-use Rattle.etp_theory.specs.Numbered.{dual_number}
+use Rattle.etp_theory.specs.LawNumbers.{dual_number}
 use Rattle.etp_closure.specs.Closures.{IsKept}
 use Rattle.etp_closure.specs.Tables.{IsNamed, listed, dual_listed}
 use Rattle.etp_closure.proofs.SlotLemmas.{kept_on, extends_then, item_among}

@@ -1,5 +1,5 @@
 use Rattle.std.proofs.Common.{◌<◌, ◌^◌, ◌⊎◌, ℕ, vec_len, slice_index}
-use Rattle.etp_theory.specs.Numbered.{dual_number}
+use Rattle.etp_theory.specs.LawNumbers.{dual_number}
 use Rattle.etp_closure.specs.Closures.{IsKept}
 use Rattle.etp_closure.specs.Tables.{IsOneToOne, Extends, IsNamed}
 use Rattle.etp_closure.proofs.slots.keep_all.Given as goal

@@ -1,5 +1,5 @@
 use Rattle.std.proofs.Common.{◌≡◌, ◌<◌, ◌+◌, ◌-◌, ℕ, length, slice_index}
-use Rattle.etp_theory.specs.Numbered.{IsLaw}
+use Rattle.etp_theory.specs.LawNumbers.{IsLaw}
 use Rattle.etp_closure.proofs.tests.is_own_inverse.Given as goal
 
 abbrev pub invariant-loop-place : goal.invariant-loop-place

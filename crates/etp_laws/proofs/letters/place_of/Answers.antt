@@ -1,6 +1,6 @@
 use Rattle.std.proofs.Common.{◌≡◌, arith, ◌∙◌, ap, length, ℕ, Option}
 use Rattle.std.specs.Option.{unwrap_or}
-use Rattle.etp_laws.specs.Numbering.{place}
+use Rattle.etp_laws.specs.Occurrences.{place}
 use Rattle.etp_laws.proofs.LetterLemmas.{place-position, place-le}
 use Rattle.etp_laws.proofs.letters.place_of.Goals as goal
 

@@ -1,6 +1,6 @@
 use Rattle.std.proofs.Common.{◌≡◌, ◌++◌, map, take}
 use Rattle.etp_term.specs.Laws.{equation_of}
-use Rattle.etp_laws.specs.Forms.{sides_from}
+use Rattle.etp_laws.specs.Shapes.{sides_from}
 use Rattle.etp_laws.specs.Enumeration.{law_at}
 use Rattle.etp_laws.proofs.listing.append_all.Given as goal
 

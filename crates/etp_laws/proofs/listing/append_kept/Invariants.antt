@@ -1,7 +1,7 @@
 use Rattle.std.proofs.Common.{◌≡◌, ◌++◌, map, filter, take}
 use Rattle.etp_theory.specs.Trees.{shape_leaves}
 use Rattle.etp_term.specs.Laws.{equation_of}
-use Rattle.etp_laws.specs.Forms.{shape_from, sides_from}
+use Rattle.etp_laws.specs.Shapes.{shape_from, sides_from}
 use Rattle.etp_laws.specs.Enumeration.{law_at, is_kept}
 use Rattle.etp_laws.proofs.listing.append_kept.Given as goal
 

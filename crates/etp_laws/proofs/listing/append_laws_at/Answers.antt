@@ -3,7 +3,7 @@ use Rattle.std.proofs.lemmas.List.{append-nil}
 use Rattle.std.proofs.lemmas.Result.{on_ok_weaker}
 use Rattle.etp_theory.specs.Trees.{shape_leaves}
 use Rattle.etp_term.specs.Laws.{equation_of}
-use Rattle.etp_laws.specs.Forms.{shape_from, sides_from}
+use Rattle.etp_laws.specs.Shapes.{shape_from, sides_from}
 use Rattle.etp_laws.proofs.Blocks.{words_fit, shape_leaves-ops, laws_at-less, laws_at-equal, laws_at-greater}
 use Rattle.etp_laws.proofs.listing.append_laws_at.Goals as goal
 

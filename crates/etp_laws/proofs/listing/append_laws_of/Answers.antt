@@ -1,7 +1,7 @@
 use Rattle.std.proofs.Common.{◌≡◌, map, ap, sym, ◌∙◌, arith}
-use Rattle.etp_laws.specs.Forms.{sides_from}
+use Rattle.etp_laws.specs.Shapes.{sides_from}
 use Rattle.etp_laws.specs.Enumeration.{words, pairs_from, shapes}
-use Rattle.etp_laws.proofs.FormLemmas.{leaves_at}
+use Rattle.etp_laws.proofs.ShapeLemmas.{leaves_at}
 use Rattle.etp_laws.proofs.listing.append_laws_of.Goals as goal
 
 pub append_laws_at-requires-clause-short : goal.append_laws_at-requires-clause-short

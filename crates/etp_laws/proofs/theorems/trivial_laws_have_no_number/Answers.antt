@@ -1,4 +1,4 @@
-use Rattle.etp_laws.proofs.Trivial.{none_same}
+use Rattle.etp_laws.proofs.ReflexiveLaw.{none_same}
 use Rattle.etp_laws.proofs.theorems.trivial_laws_have_no_number.Goals as goal
 
 pub returns : goal.returns

@@ -2,7 +2,7 @@ use Rattle.std.proofs.Common.{◌≡◌, ◌∷◌, [], List, sym, ap, ◌∙◌
 use Rattle.etp_theory.specs.Trees.{var, op}
 use Rattle.etp_theory.specs.Positions.{to_left, to_right}
 use Rattle.etp_term.specs.Terms.{tree_of}
-use Rattle.etp_term.specs.Sides.{position_of}
+use Rattle.etp_term.specs.Positions.{position_of}
 use Rattle.etp_term.specs.declared.position.Side.TheVariants.{L, R}
 use Rattle.etp_term.proofs.Opened.{tree_of-var, tree_of-op}
 use Rattle.etp_match.specs.Bindings.{partial_of}

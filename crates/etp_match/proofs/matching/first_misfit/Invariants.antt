@@ -1,7 +1,7 @@
 use Rattle.std.proofs.Common.{List, ◌++◌}
 use Rattle.etp_theory.specs.Positions.{Side}
 use Rattle.etp_term.specs.Terms.{tree_of}
-use Rattle.etp_term.specs.Sides.{position_of}
+use Rattle.etp_term.specs.Positions.{position_of}
 use Rattle.etp_match.specs.Bindings.{partial_of}
 use Rattle.etp_match.specs.Matching.{NoneMatches, IsFirstMisfit}
 use Rattle.etp_match.proofs.matching.first_misfit.Given as goal

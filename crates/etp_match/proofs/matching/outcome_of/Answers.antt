@@ -1,7 +1,7 @@
 use Rattle.std.proofs.Common.{◌≡◌, List, ◌++◌, map, take, drop, sym, ap, ◌∙◌, subst}
 use Rattle.std.proofs.lemmas.List.{take-append-drop}
 use Rattle.etp_term.specs.Terms.{tree_of}
-use Rattle.etp_term.specs.Sides.{position_of}
+use Rattle.etp_term.specs.Positions.{position_of}
 use Rattle.etp_match.specs.Bindings.{value_of, entry_of, partial_of}
 use Rattle.etp_match.specs.Matching.{NoneMatches, IsFirstMisfit}
 use Rattle.etp_match.specs.declared.subst.Binding.{Binding}

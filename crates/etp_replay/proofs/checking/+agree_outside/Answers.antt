@@ -2,7 +2,7 @@ use Rattle.std.proofs.Common.{◌≡◌, ◌∷◌, sym, ap, ◌∙◌}
 use Rattle.etp_theory.specs.Trees.{op}
 use Rattle.etp_theory.specs.Positions.{to_left, to_right}
 use Rattle.etp_term.specs.Terms.{tree_of}
-use Rattle.etp_term.specs.Sides.{side_of, position_of}
+use Rattle.etp_term.specs.Positions.{side_of, position_of}
 use Rattle.etp_term.proofs.Opened.{tree_of-op}
 use Rattle.etp_replay.proofs.Outside.{same_left, other_left, same_right, other_right}
 use Rattle.etp_replay.proofs.checking.+agree_outside.Goals as goal

@@ -1,6 +1,6 @@
 use Rattle.etp_theory.specs.Proofs.{AgreeOutside}
 use Rattle.etp_term.specs.Terms.{tree_of}
-use Rattle.etp_term.specs.Sides.{position_of}
+use Rattle.etp_term.specs.Positions.{position_of}
 use Rattle.etp_replay.specs.Lines.{sides_of}
 use Rattle.etp_match.specs.Bindings.{partial_of}
 use Rattle.etp_replay.proofs.Extending.{right_step, no_match}

@@ -1,6 +1,6 @@
 use Rattle.std.proofs.Common.{◌≡◌, inl, inr, map, Err, rules, ap, ◌∙◌}
 use Rattle.etp_theory.specs.Proofs.{IsValidProof}
-use Rattle.etp_theory.proofs.Theorems.{proof_laws}
+use Rattle.etp_theory.proofs.Theorems.{proof_theorems}
 use Rattle.etp_term.specs.Laws.{equation_of}
 use Rattle.etp_proof.specs.Lemmas.{lemma_of}
 use Rattle.etp_replay.specs.Lines.{cites_of}
@@ -22,7 +22,7 @@ pub returns-clause-derived : goal.returns-clause-derived
 returns-clause-derived c = λ derived.
     let valid : IsValidProof (law_at c.args.laws.now.equations c.args.proof.now.hypothesis) (law_at c.args.laws.now.equations c.args.proof.now.goal) (map (law_at c.args.laws.now.equations) c.args.cited.now) (map lemma_of c.args.proof.now.lemmas) =
     is_valid (law_at c.args.laws.now.equations c.args.proof.now.hypothesis) (equation_of c.listed-hypothesis.result.now) (law_at c.args.laws.now.equations c.args.proof.now.goal) (map (law_at c.args.laws.now.equations) c.args.cited.now) (cites_of c.as_slice.result.now) c.args.proof.now.lemmas c.as_slice-lemmas.result.now c.listed-hypothesis.ensures.law (ap cites_of c.as_slice.ensures.value ∙ c.in_ok-cites.ensures) c.as_slice-lemmas.ensures.value c.requires.lemmas c.in_ok-replay_lemmas.ensures.ok c.index-lemmas-lemmas.result c.index-lemmas-lemmas.is c.in_ok-compare_goal.ensures.ok in
-    proof_laws.proved (law_at c.args.laws.now.equations c.args.proof.now.hypothesis) (law_at c.args.laws.now.equations c.args.proof.now.goal) (map (law_at c.args.laws.now.equations) c.args.cited.now) (map lemma_of c.args.proof.now.lemmas) derived valid
+    proof_theorems.proved (law_at c.args.laws.now.equations c.args.proof.now.hypothesis) (law_at c.args.laws.now.equations c.args.proof.now.goal) (map (law_at c.args.laws.now.equations) c.args.cited.now) (map lemma_of c.args.proof.now.lemmas) derived valid
 
 pub returns-in_err-compare_goal-clause-err : goal.returns-in_err-compare_goal-clause-err
 returns-in_err-compare_goal-clause-err c =

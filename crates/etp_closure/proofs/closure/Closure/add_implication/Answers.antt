@@ -1,5 +1,5 @@
 use Rattle.std.proofs.Common.{◌∙◌, ap, subst, ℕ, List}
-use Rattle.etp_theory.specs.Numbered.{dual_number}
+use Rattle.etp_theory.specs.LawNumbers.{dual_number}
 use Rattle.etp_closure.specs.Closures.{is_reached, is_covered}
 use Rattle.etp_closure.specs.Tables.{Links}
 use Rattle.etp_closure.proofs.Standing.{stands_implied}

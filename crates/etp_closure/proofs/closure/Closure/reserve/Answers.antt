@@ -3,7 +3,7 @@ use Rattle.std.specs.Vec.{with_items}
 use Rattle.std.proofs.lemmas.List.{with_items_is, length-take-le}
 use Rattle.etp_bits.specs.Bits.{Bits, SameSizes}
 use Rattle.etp_theory.specs.Reach.{Fact}
-use Rattle.etp_theory.specs.Numbered.{IsLaw}
+use Rattle.etp_theory.specs.LawNumbers.{IsLaw}
 use Rattle.etp_closure.specs.Closures.{Known, IsKept, IsReserved, KeepsSlots, SameAnswers, StandsFor, slot_of}
 use Rattle.etp_closure.specs.Tables.{IsClosure, IsSquare, Extends}
 use Rattle.etp_closure.proofs.Truths.{Reserved, reserve_ok, reserve_err, slots_back}

@@ -1,7 +1,7 @@
 use Rattle.std.proofs.Common.{◌≡◌, ◌∙◌, ◌+◌, ap, sym, subst, arith, Some, List, ℕ, length, not, ◌&&◌}
 use Rattle.etp_bits.specs.Counts.{count_below}
 use Rattle.etp_bits.specs.Bits.{bit}
-use Rattle.etp_theory.specs.Numbered.{IsLaw}
+use Rattle.etp_theory.specs.LawNumbers.{IsLaw}
 use Rattle.etp_closure.specs.Closures.{Known, slot_of, is_reached, is_covered}
 use Rattle.etp_closure.proofs.RowLemmas.{row_reached, row_refuted, lone_reached, lone_refuted}
 use Rattle.etp_closure.proofs.closure.Closure.row_counts.Goals as goal

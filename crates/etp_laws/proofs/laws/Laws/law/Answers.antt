@@ -2,7 +2,7 @@ use Rattle.std.proofs.Common.{◌-◌, sym, ◌∙◌, ap, arith}
 use Rattle.std.proofs.lemmas.Option.{slice_get-map}
 use Rattle.std.specs.Option.{option_map}
 use Rattle.etp_term.specs.Laws.{equation_of}
-use Rattle.etp_theory.specs.Numbered.{law_numbered}
+use Rattle.etp_theory.specs.LawNumbers.{law_numbered}
 use Rattle.etp_laws.specs.LawLists.{LawList}
 use Rattle.etp_laws.proofs.Entries.{the_list, entry_after}
 use Rattle.etp_laws.proofs.laws.Laws.law.Goals as goal

@@ -1,6 +1,6 @@
 use Rattle.std.proofs.lemmas.List.{take_all}
 use Rattle.std.proofs.Common.{◌≤◌, length, All, subst, arith}
-use Rattle.etp_theory.specs.Numbered.{IsLaw}
+use Rattle.etp_theory.specs.LawNumbers.{IsLaw}
 use Rattle.etp_reading.proofs.FirstOf.{one_more, first_at}
 use Rattle.etp_reading.proofs.tally.Tally.first_of.Goals as goal
 

@@ -1,5 +1,5 @@
 use Rattle.std.proofs.Common.{All, take}
-use Rattle.etp_theory.specs.Numbered.{IsLaw}
+use Rattle.etp_theory.specs.LawNumbers.{IsLaw}
 use Rattle.etp_reading.proofs.tally.Tally.first_of.Given as goal
 
 abbrev pub invariant-loop-number : goal.invariant-loop-number
