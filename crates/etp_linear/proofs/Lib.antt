@@ -6,3 +6,4 @@ pub mod Starts
 pub mod Failing
 pub mod Judged
 pub mod Meaning
+pub mod Offences

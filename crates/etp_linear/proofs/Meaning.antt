@@ -24,7 +24,7 @@ contains_at xs i n e = go (slice_get_cases xs i).1
     go (inr (past, is)) = absurd (some_none n (sym e ∙ is))
 
 -- one law has one number
-both : (laws : List Equation) (l : LinearMagma) (n : ℕ) → LawHolds laws l n → LawFails laws l n → ⊥
+pub both : (laws : List Equation) (l : LinearMagma) (n : ℕ) → LawHolds laws l n → LawFails laws l n → ⊥
 both laws l n h f =
     let same : Some h.law ≡ Some f.law = sym h.listed ∙ f.listed in
     let eq : h.law ≡ f.law = cc in

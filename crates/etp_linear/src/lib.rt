@@ -15,7 +15,7 @@ mod theorems;
 pub use linear::Linear;
 pub use parts::{Form, LinearFailure, Ring, Which};
 pub use refusal::LinearRefusal;
-pub use theorems::linear_laws;
+pub use theorems::linear_theorems;
 
 #[cfg(test)]
 mod tests;

@@ -1,5 +1,5 @@
 ghost use Rattle.std.specs.Prelude.{All, IsSome, IsTrue};
-ghost use Rattle.etp_theory.specs.Numbered.{law_numbered};
+ghost use Rattle.etp_theory.specs.LawNumbers.{law_numbered};
 
 use crate::{Linear, LinearFailure, LinearRefusal, Ring, Which};
 use etp_laws::Laws;

@@ -1,6 +1,6 @@
-ghost use Rattle.etp_linear.specs.Theorems.{LinearLaws};
+ghost use Rattle.etp_linear.specs.Theorems.{LinearTheorems};
 
 /// A law holds in a linear magma exactly where its sides have one form; laws are judged in one way.
-pub fn linear_laws()
-    ensures { LinearLaws }
+pub fn linear_theorems()
+    ensures { LinearTheorems }
 {}

@@ -4,7 +4,7 @@ use Rattle.std.specs.Prelude.{All}
 use Rattle.std.proofs.lemmas.List.{take_all}
 use Rattle.std.proofs.lemmas.List.Elements.{All-contains}
 use Rattle.etp_theory.specs.Trees.{Equation, bound}
-use Rattle.etp_theory.specs.Numbered.{law_numbered}
+use Rattle.etp_theory.specs.LawNumbers.{law_numbered}
 use Rattle.etp_theory.specs.Reach.{refutes}
 use Rattle.etp_theory.specs.RightFacts.{IsRightFact}
 use Rattle.etp_theory.specs.Sound.{sound}

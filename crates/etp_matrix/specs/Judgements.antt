@@ -2,7 +2,7 @@
 use Rattle.std.specs.Prelude.{◌≡◌, ℕ, List, All, Some, slice_get, take}
 use Rattle.etp_theory.specs.Trees.{Equation}
 use Rattle.etp_theory.specs.Magmas.{Holds}
-use Rattle.etp_theory.specs.Numbered.{law_numbered}
+use Rattle.etp_theory.specs.LawNumbers.{law_numbered}
 use Rattle.etp_matrix.specs.Magmas.{MatrixMagma, inside, times, IsModulus, IsFirstOutOfRange}
 use Rattle.etp_matrix.specs.Failures.{IsFirstFailure}
 use Rattle.etp_matrix.specs.declared.parts.MatrixFailure.{MatrixFailure}

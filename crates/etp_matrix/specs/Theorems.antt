@@ -28,7 +28,7 @@ modulo_five = record {
   c = 0 ∷ 3 ∷ [];
 }
 
-pub record MatrixLaws : Type 0 where
+pub record MatrixTheorems : Type 0 where
   pub closed : (g : MatrixMagma) → IsMatrixMagma g → IsClosed (inside g) (times g)
   -- what a variable adds is its coefficient matrix times the variable's value
   pub by_matrix : (g : MatrixMagma) → IsMatrixMagma g → (t : Tree) (v : ℕ) (x : List ℕ) → IsTrue (inside g x)

@@ -1,6 +1,6 @@
 ghost use Rattle.std.specs.Prelude.{◌≡◌, ◌≤◌, All, Some, IsSome, IfNone, IfSome, IfErr, OnOk};
 ghost use Rattle.etp_theory.specs.Trees.{bound};
-ghost use Rattle.etp_theory.specs.Numbered.{law_numbered};
+ghost use Rattle.etp_theory.specs.LawNumbers.{law_numbered};
 ghost use Rattle.etp_theory.specs.Reach.{refutes};
 ghost use Rattle.etp_theory.specs.RightFacts.{IsRightFact};
 ghost use Rattle.etp_term.specs.Terms.{tree_of};

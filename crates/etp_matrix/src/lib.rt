@@ -16,7 +16,7 @@ mod vectors;
 pub use matrix_linear::MatrixLinear;
 pub use parts::{MatrixFailure, Part};
 pub use refusal::MatrixRefusal;
-pub use theorems::matrix_laws;
+pub use theorems::matrix_theorems;
 
 #[cfg(test)]
 mod tests;

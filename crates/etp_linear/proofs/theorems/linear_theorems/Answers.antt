@@ -6,7 +6,8 @@ use Rattle.etp_linear.proofs.Scalars.{linear, generate, by_coefficients}
 use Rattle.etp_linear.proofs.Walks.{in_carrier}
 use Rattle.etp_linear.specs.Sound.{closed_in}
 use Rattle.etp_linear.proofs.Meaning.{not_both}
-use Rattle.etp_linear.proofs.theorems.linear_laws.Goals as goal
+use Rattle.etp_linear.proofs.Offences.{one_offence, in_or_out, one_out_of_range}
+use Rattle.etp_linear.proofs.theorems.linear_theorems.Goals as goal
 
 pub returns : goal.returns
 returns c = record {
@@ -18,6 +19,9 @@ returns c = record {
         λ h. Forms.one_form_holds (inside l.ring) (times l) (affine l) (linear l ok.modulus i) _ (generate l ok.modulus) p q (b.1 h),
       );
   not_both = not_both;
+  one_offence = one_offence;
+  in_or_out = in_or_out;
+  one_out_of_range = one_out_of_range;
   value_over_integers = refl;
   value_modulo_seven = refl;
 }

@@ -3,7 +3,7 @@ use Rattle.etp_matrix.specs.Sound.{closed_in}
 use Rattle.etp_matrix.proofs.Magmas.{by_matrix}
 use Rattle.etp_matrix.proofs.Failing.{by_form, by_matrices}
 use Rattle.etp_matrix.proofs.Meaning.{not_both}
-use Rattle.etp_matrix.proofs.theorems.matrix_laws.Goals as goal
+use Rattle.etp_matrix.proofs.theorems.matrix_theorems.Goals as goal
 
 pub returns : goal.returns
 returns c = record {
