@@ -4,7 +4,7 @@ use Rattle.std.specs.Option.{option_map}
 use Rattle.etp_theory.specs.Trees.{Tree, var, op, Occurs}
 use Rattle.etp_theory.specs.Substitutions.{apply, total, value_or}
 use Rattle.etp_theory.specs.Unifiers.{IsBest, NoUnifier}
-use Rattle.etp_theory.proofs.Theorems.{unification_laws}
+use Rattle.etp_theory.proofs.Theorems.{unification_theorems}
 use Rattle.etp_theory.proofs.Unifiers.{occurs_dec}
 use Rattle.etp_theory.proofs.Matching.{apply_agree}
 use Rattle.etp_term.specs.Terms.{tree_of}
@@ -37,7 +37,7 @@ module _ (s t : Tree) (bindings : List Binding) (h : IsTriangular bindings) (sam
 
   -- a unifier that leaves all other variables alone
   tame : (k : ℕ → Tree) × IsBest k s t
-  tame = unification_laws.has_best s t m unifies
+  tame = unification_theorems.has_best s t m unifies
 
   -- a variable with a value is not its own value, so it stands in one of the terms
   moved : (v : ℕ) (u : Tree) → (partial_of bindings).value v ≡ Some u → Occurs v s ⊎ Occurs v t
@@ -107,7 +107,7 @@ module _ (s t : Tree) (bindings : List Binding) (h : IsTriangular bindings) (sam
 
     pub is_most : IsMost (partial_of most) s t
     is_most = record {
-      general = (unification_laws.finite (partial_of most) s t).1 (record {
+      general = (unification_theorems.finite (partial_of most) s t).1 (record {
         unifies = applied s ∙ unifies ∙ sym (applied t);
         factors = λ n e. (n, λ v. ap (apply n) (total_is v) ∙ absorbed n e v);
       });
