@@ -2,6 +2,7 @@ pub mod SideLemmas
 pub mod OneProofLine
 pub mod OneClaimLine
 pub mod OneTableLine
+pub mod OneLinearLine
 pub mod OneLine
 pub mod OneProof
 pub mod OneModel
@@ -17,6 +18,7 @@ pub mod ModelReads
 pub mod ModelListed
 pub mod WrittenReads
 pub mod NumbersFit
+pub mod LinearLemmas
 pub mod ModelWritable
 pub mod Writable
 pub mod ShortLines

@@ -1,21 +1,22 @@
 -- A magma and its claims with one line more.
-use Rattle.std.proofs.Common.{◌≡◌, ℕ, ◌+◌, ◌<◌, ◌≤◌, ◌&&◌, not, arith, Bool, true, false, List, [], ◌∷◌, ◌++◌, length, map, All, nat_eq, nat_le, nat_lt, refl, sym, ap, subst, ◌∙◌, Option, Some, None, IfOk, Result, Ok, Err, append_assoc, append-nil, length-append, eqb-true}
+use Rattle.std.proofs.Common.{◌≡◌, ℕ, ◌+◌, ◌<◌, ◌&&◌, not, arith, Bool, true, false, List, [], ◌∷◌, ◌++◌, length, map, nat_eq, nat_le, nat_lt, refl, sym, ap, subst, ◌∙◌, Option, Some, None, IfOk, OnErr, Result, Ok, Err, append_assoc, append-nil, length-append}
 use Rattle.std.specs.Option.{option_map, is_some}
 use Rattle.std.specs.List.{concat}
 use Rattle.std.proofs.lemmas.Bool.{le-leb, lt-ltb, eq-eqb}
 use Rattle.std.proofs.lemmas.List.Folds.{concat-append}
 use Rattle.std.proofs.lemmas.List.Elements.{All-push}
-use Rattle.etp_items.specs.ProofLines.{ProofLine}
-use Rattle.etp_items.specs.TableLines.{TableLine, table, row, Rows, opened_rows, after_in_table}
-use Rattle.etp_items.specs.Claims.{ClaimLine, holds, fails, ClaimPlace, holding, failing, first_claim, after_claim}
+use Rattle.etp_items.specs.TableLines.{TableLine, table, row, after_in_table}
+use Rattle.etp_items.specs.Claims.{ClaimLine, holds, fails, ClaimPlace, failing, first_claim, after_claim}
 use Rattle.etp_items.specs.BodyLines as Lines
-use Rattle.etp_items.specs.BodyLines.{Line, Place, opening, in_head, in_claims, table_line, claim_line, proof_line, after_opening, after, is_told, is_complete}
-use Rattle.etp_items.specs.Bodies.{FileBody, model, claims_of}
-use Rattle.etp_items.specs.Bodies as Bodies
-use Rattle.etp_items.specs.Reading.{SaysBody}
-use Rattle.etp_items.specs.Work.{HasRows, OpensTable, rows_place, TakesRow, claim_at, TakesInTable, is_told_by, claim_place, HasClaims, OpensClaims, TakesInClaims, HasModel, HasCome, GoesOn, Takes, IsWhole}
+use Rattle.etp_items.specs.BodyLines.{Line, of_proofs, of_tables, of_linear, of_claims, Head, opened_head, next_head, BeginsNoProof, Place, opening, in_head, in_claims, table_line, claim_line, after_opening, after_head, after, is_told, is_complete}
+use Rattle.etp_items.specs.Bodies.{model, claims_of}
+use Rattle.etp_items.specs.Reading.{SaysModel}
+use Rattle.etp_items.specs.Work.{HasRows, OpensTable, rows_place, TakesRow, claim_at, TakesInTable, HasHead, OpensHead, TakesInHead, is_told_by, told_by, claim_place, OpensClaims, TakesInClaims, HasModel, HasCome, Takes, IsWhole}
 use Rattle.etp_items.specs.declared.table.work.TableWork.{TableWork}
 use Rattle.etp_items.specs.declared.claims.work.ClaimsWork.{ClaimsWork}
+use Rattle.etp_items.specs.declared.linear.lines.LinearLine.{LinearLine}
+use Rattle.etp_items.specs.declared.magma.MagmaWork.{MagmaWork}
+use Rattle.etp_items.specs.declared.magma.MagmaWork.TheVariants.{Table, Linear}
 use Rattle.etp_items.specs.declared.model.ModelWork.{ModelWork}
 use Rattle.etp_items.specs.declared.work.Work.{Work}
 use Rattle.etp_items.specs.declared.work.Work.TheVariants.{Opening, Model}
@@ -114,15 +115,32 @@ fails_taken old new said numbers e set f g = (
   },
 )
 
--- the work of a magma goes on as its table does
-pub table_takes : (old new : TableWork) (said : TableLine) (taken : Bool) → TakesInTable old said new taken
-    → Takes (Model (record { magma = old; claims = None })) (table_line said) (Model (record { magma = new; claims = None })) taken
-table_takes old new said true t = λ place saids (rows, h, p, s).
+none_is : {A : Type 0} (o : Option A) → is_some o ≡ false → o ≡ None
+none_is None e = refl
+none_is (Some a) e = absurd (true_false e)
+
+pub not_false : (b : Bool) → not b ≡ false → b ≡ true
+not_false true e = refl
+not_false false e = absurd (true_false e)
+
+-- a table opens a magma
+pub table_opens : (said : TableLine) (w : TableWork) → OpensTable said (Some w) → OpensHead (table_line said) (Some (Table w))
+table_opens said w t =
+    let low : nat_le 1 w.size ≡ true = le-leb 1 w.size t.2.some in
+    let high : nat_le w.size 255 ≡ true = le-leb w.size 255 t.1 in (
+      Lines.rows (rows_place w []),
+      ap (λ (z : TableLine). opened_head (table_line z)) t.0 ∙ rw (low, high) refl,
+      ([], t.2, refl, ap (λ (z : TableLine). table_line z ∷ []) t.0),
+    )
+
+-- a magma goes on as its table does
+pub table_takes : (old new : TableWork) (said : TableLine) (taken : Bool) → TakesInTable old said new taken → TakesInHead (Table old) (table_line said) (Table new) taken
+table_takes old new said true t = λ head saids (rows, h, p, s).
     let on = t rows h in
     record {
-      next = in_head (Lines.rows (rows_place new (rows ++ on.entries ∷ [])));
-      stands = ap (λ (z : Place). after z (table_line said)) p ∙ ap (option_map (λ r. in_head (Lines.rows r))) on.stands;
-      come = (
+      next = Lines.rows (rows_place new (rows ++ on.entries ∷ []));
+      stands = ap (λ (z : Head). next_head z (table_line said)) p ∙ ap (option_map Lines.rows) on.stands;
+      has = (
         rows ++ on.entries ∷ [],
         on.now,
         refl,
@@ -133,108 +151,154 @@ table_takes old new said true t = λ place saids (rows, h, p, s).
             ∙ ap (λ n. map table_line (table n ∷ map row (rows ++ on.entries ∷ []))) (sym on.size_is),
       );
     }
-table_takes old new said false t = λ place saids (rows, h, p, s). ap (λ (z : Place). after z (table_line said)) p ∙ ap (option_map (λ r. in_head (Lines.rows r))) (t rows h)
+table_takes old new said false t = λ head saids (rows, h, p, s). ap (λ (z : Head). next_head z (table_line said)) p ∙ ap (option_map Lines.rows) (t rows h)
 
-pub table_takes_ok : {E : Type 0} (old new : TableWork) (said : TableLine) (r : Result Bool E) → IfOk r (TakesInTable old said new)
-    → IfOk r (Takes (Model (record { magma = old; claims = None })) (table_line said) (Model (record { magma = new; claims = None })))
+pub table_takes_ok : {E : Type 0} (old new : TableWork) (said : TableLine) (r : Result Bool E) → IfOk r (TakesInTable old said new) → IfOk r (TakesInHead (Table old) (table_line said) (Table new))
 table_takes_ok old new said (Ok taken) t = table_takes old new said taken t
 table_takes_ok old new said (Err e) t = tt
 
-none_is : {A : Type 0} (o : Option A) → is_some o ≡ false → o ≡ None
-none_is None e = refl
-none_is (Some a) e = absurd (true_false e)
+-- a line that is no table's tells no more of a table
+abbrev pub IsNoTableLine : Line → Type 0
+IsNoTableLine (of_tables, said) = ⊥
+IsNoTableLine _ = Unit {0}
 
-pub table_takes_at : {E : Type 0} (w : ModelWork) (new : TableWork) (said : TableLine) (r : Result Bool E) → is_some w.claims ≡ false → IfOk r (TakesInTable w.magma said new)
-    → IfOk r (Takes (Model w) (table_line said) (Model (record { magma = new; claims = w.claims })))
-table_takes_at w new said r none t =
-    subst (λ o. IfOk r (Takes (Model (record { magma = w.magma; claims = o })) (table_line said) (Model (record { magma = new; claims = o }))))
-    (sym (none_is w.claims none)) (table_takes_ok w.magma new said r t)
+pub table_keeps : (w : TableWork) (said : Line) → IsNoTableLine said → TakesInHead (Table w) said (Table w) false
+table_keeps w (of_proofs, said) none head saids h = ap (λ (z : Head). next_head z (of_proofs, said)) h.2
+table_keeps w (of_tables, said) none head saids h = absurd none
+table_keeps w (of_linear, said) none head saids h = ap (λ (z : Head). next_head z (of_linear, said)) h.2
+table_keeps w (of_claims, said) none head saids h = ap (λ (z : Head). next_head z (of_claims, said)) h.2
 
-pub not_false : (b : Bool) → not b ≡ false → b ≡ true
-not_false true e = refl
-not_false false e = absurd (true_false e)
+-- one line tells a linear magma
+pub linear_keeps : (l : LinearLine) (said : Line) → TakesInHead (Linear l) said (Linear l) false
+linear_keeps l said head saids h = ap (λ (z : Head). next_head z said) h.0
 
--- behind the claims no line of a table stands
-pub table_shut : (w : ModelWork) (c : ClaimsWork) (said : TableLine) → w.claims ≡ Some c → Takes (Model w) (table_line said) (Model w) false
-table_shut w c said e place saids h =
+-- whether the magma is told
+told_as : (m : MagmaWork) (head : Head) (saids : List Line) → HasHead m head saids → is_told head ≡ is_told_by m
+told_as (Table w) head saids (rows, h, p, s) = ap is_told p ∙ ap (λ n. nat_eq n w.size) (sym h.count_is)
+told_as (Linear l) head saids h = ap is_told h.0
+
+-- the lines of a magma that is told tell it
+told_says : (m : MagmaWork) (head : Head) (saids : List Line) → HasHead m head saids → SaysModel saids (told_by m)
+told_says (Table w) head saids (rows, h, p, s) = (table w.size ∷ map row rows, s, record { rows = rows; whole = refl; entries_are = h.entries_are })
+told_says (Linear l) head saids h = h.1
+
+-- a line that is none of claims
+abbrev pub IsNoClaim : Line → Type 0
+IsNoClaim (of_claims, said) = ⊥
+IsNoClaim _ = Unit {0}
+
+after_told : (head : Head) (said : Line) → IsNoClaim said → after_head head said ≡ option_map in_head (next_head head said)
+after_told head (of_proofs, said) none = refl
+after_told head (of_tables, said) none = refl
+after_told head (of_linear, said) none = refl
+after_told head (of_claims, said) none = absurd none
+
+after_claims : (place : ClaimPlace) (said : Line) → IsNoClaim said → after (in_claims place) said ≡ None
+after_claims place (of_proofs, said) none = refl
+after_claims place (of_tables, said) none = refl
+after_claims place (of_linear, said) none = refl
+after_claims place (of_claims, said) none = absurd none
+
+-- the work goes on as its magma does
+head_takes : (old new : MagmaWork) (said : Line) (taken : Bool) → IsNoClaim said → TakesInHead old said new taken
+    → Takes (Model (record { magma = old; claims = None })) said (Model (record { magma = new; claims = None })) taken
+head_takes old new said true none t = λ place saids (head, h, p).
+    let on = t head saids h in
+    record {
+      next = in_head on.next;
+      stands = ap (λ (z : Place). after z said) p ∙ after_told head said none ∙ ap (option_map in_head) on.stands;
+      come = (on.next, on.has, refl);
+    }
+head_takes old new said false none t = λ place saids (head, h, p). ap (λ (z : Place). after z said) p ∙ after_told head said none ∙ ap (option_map in_head) (t head saids h)
+
+head_takes_ok : {E : Type 0} (old new : MagmaWork) (said : Line) (r : Result Bool E) → IsNoClaim said → IfOk r (TakesInHead old said new)
+    → IfOk r (Takes (Model (record { magma = old; claims = None })) said (Model (record { magma = new; claims = None })))
+head_takes_ok old new said (Ok taken) none t = head_takes old new said taken none t
+head_takes_ok old new said (Err e) none t = tt
+
+pub head_takes_at : {E : Type 0} (w : ModelWork) (new : MagmaWork) (said : Line) (r : Result Bool E) → IsNoClaim said → is_some w.claims ≡ false → IfOk r (TakesInHead w.magma said new)
+    → IfOk r (Takes (Model w) said (Model (record { magma = new; claims = w.claims })))
+head_takes_at w new said r none unclaimed t =
+    subst (λ o. IfOk r (Takes (Model (record { magma = w.magma; claims = o })) said (Model (record { magma = new; claims = o }))))
+    (sym (none_is w.claims unclaimed)) (head_takes_ok w.magma new said r none t)
+
+pub head_kept : {E : Type 0} (w : ModelWork) (new : MagmaWork) (r : Result Bool E) → OnErr r (new ≡ w.magma) → OnErr r (Path ModelWork (record { magma = new; claims = w.claims }) w)
+head_kept w new (Ok taken) h = tt
+head_kept w new (Err e) h = ap (λ z. record { magma = z; claims = w.claims }) h
+
+-- behind the claims no line of a magma stands
+pub head_shut : (w : ModelWork) (c : ClaimsWork) (said : Line) → IsNoClaim said → w.claims ≡ Some c → Takes (Model w) said (Model w) false
+head_shut w c said none e place saids h =
     let k : HasModel w.magma (Some c) place saids = subst (λ o. HasModel w.magma o place saids) e h in
-    ap (λ (z : Place). after z (table_line said)) k.5
+    ap (λ (z : Place). after z said) k.6 ∙ after_claims (claim_place c) said none
 
 -- and as its claims do
-pub claims_take : (m : TableWork) (old new : ClaimsWork) (said : ClaimLine) (taken : Bool) → TakesInClaims old said new taken
+pub claims_take : (m : MagmaWork) (old new : ClaimsWork) (said : ClaimLine) (taken : Bool) → TakesInClaims old said new taken
     → Takes (Model (record { magma = m; claims = Some old })) (claim_line said) (Model (record { magma = m; claims = Some new })) taken
-claims_take m old new said true t = λ place saids (rows, lines, h, k, n, p, s). record {
+claims_take m old new said true t = λ place saids (head, told, lines, h, k, n, p, s). record {
   next = in_claims (claim_place new);
   stands = ap (λ (z : Place). after z (claim_line said)) p ∙ ap (option_map in_claims) t.0;
   come = (
-    rows,
+    head,
+    told,
     lines ++ said ∷ [],
     h,
     t.1 lines k,
     n,
     refl,
     ap (λ z. z ++ claim_line said ∷ []) s
-        ∙ append_assoc (map table_line (table m.size ∷ map row rows)) (map claim_line lines) (claim_line said ∷ [])
-        ∙ ap (λ z. map table_line (table m.size ∷ map row rows) ++ z) (sym (map_end claim_line lines said)),
+        ∙ append_assoc told (map claim_line lines) (claim_line said ∷ [])
+        ∙ ap (λ z. told ++ z) (sym (map_end claim_line lines said)),
   );
 }
-claims_take m old new said false t = λ place saids (rows, lines, h, k, n, p, s). ap (λ (z : Place). after z (claim_line said)) p ∙ ap (option_map in_claims) t
+claims_take m old new said false t = λ place saids (head, told, lines, h, k, n, p, s). ap (λ (z : Place). after z (claim_line said)) p ∙ ap (option_map in_claims) t
 
-pub claims_take_ok : {E : Type 0} (m : TableWork) (old new : ClaimsWork) (said : ClaimLine) (r : Result Bool E) → IfOk r (TakesInClaims old said new)
+pub claims_take_ok : {E : Type 0} (m : MagmaWork) (old new : ClaimsWork) (said : ClaimLine) (r : Result Bool E) → IfOk r (TakesInClaims old said new)
     → IfOk r (Takes (Model (record { magma = m; claims = Some old })) (claim_line said) (Model (record { magma = m; claims = Some new })))
 claims_take_ok m old new said (Ok taken) t = claims_take m old new said taken t
 claims_take_ok m old new said (Err e) t = tt
-
--- whether all rows stand
-told_as : (m : TableWork) (rows : List (List ℕ)) → HasRows m rows → is_told (Lines.rows (rows_place m rows)) ≡ is_told_by m
-told_as m rows h = ap (λ n. nat_eq n m.size) (sym h.count_is)
 
 pub claims_open : (w : ModelWork) (said : ClaimLine) (o : Option ClaimsWork) → w.claims ≡ None → is_told_by w.magma ≡ true → OpensClaims said o
     → Takes (Model w) (claim_line said) (Model (record { magma = w.magma; claims = o })) (is_some o)
 claims_open w said (Some c) e told t = λ place saids h.
     let k : HasModel w.magma None place saids = subst (λ o. HasModel w.magma o place saids) e h in
-    let all : is_told (Lines.rows (rows_place w.magma k.0)) ≡ true = told_as w.magma k.0 k.1 ∙ told in
+    let all : is_told k.0 ≡ true = told_as w.magma k.0 saids k.1 ∙ told in
     record {
       next = in_claims (claim_place c);
       stands = ap (λ (z : Place). after z (claim_line said)) k.2 ∙ rw all (ap (option_map in_claims) t.0);
-      come = (k.0, said ∷ [], k.1, t.1, eqb-true (length k.0) w.magma.size all, refl, ap (λ z. z ++ claim_line said ∷ []) k.3);
+      come = (k.0, saids, said ∷ [], k.1, t.1, all, refl, refl);
     }
 claims_open w said None e told t = λ place saids h.
     let k : HasModel w.magma None place saids = subst (λ o. HasModel w.magma o place saids) e h in
-    let all : is_told (Lines.rows (rows_place w.magma k.0)) ≡ true = told_as w.magma k.0 k.1 ∙ told in
+    let all : is_told k.0 ≡ true = told_as w.magma k.0 saids k.1 ∙ told in
     ap (λ (z : Place). after z (claim_line said)) k.2 ∙ rw all (ap (option_map in_claims) t)
 
 pub claims_shut : (w : ModelWork) (said : ClaimLine) → w.claims ≡ None → is_told_by w.magma ≡ false → Takes (Model w) (claim_line said) (Model w) false
 claims_shut w said e told = λ place saids h.
     let k : HasModel w.magma None place saids = subst (λ o. HasModel w.magma o place saids) e h in
-    let all : is_told (Lines.rows (rows_place w.magma k.0)) ≡ false = told_as w.magma k.0 k.1 ∙ told in
+    let all : is_told k.0 ≡ false = told_as w.magma k.0 saids k.1 ∙ told in
     ap (λ (z : Place). after z (claim_line said)) k.2 ∙ rw all refl
 
--- no line of a proof stands in a magma
-pub proof_shut : (w : ModelWork) (o : Option ClaimsWork) (said : ProofLine) → w.claims ≡ o → Takes (Model w) (proof_line said) (Model w) false
-proof_shut w None said e = λ place saids h.
-    let k : HasModel w.magma None place saids = subst (λ o. HasModel w.magma o place saids) e h in
-    ap (λ (z : Place). after z (proof_line said)) k.2
-proof_shut w (Some c) said e = λ place saids h.
-    let k : HasModel w.magma (Some c) place saids = subst (λ o. HasModel w.magma o place saids) e h in
-    ap (λ (z : Place). after z (proof_line said)) k.5
+-- a magma opens
+after_first : (said : Line) → BeginsNoProof said → after_opening said ≡ option_map in_head (opened_head said)
+after_first (of_proofs, said) none = absurd none
+after_first (of_tables, said) none = refl
+after_first (of_linear, said) none = refl
+after_first (of_claims, said) none = refl
 
--- a table opens
-pub table_opens : (old : Work) (said : TableLine) (w : TableWork) → old ≡ Opening → OpensTable said (Some w) → Takes old (table_line said) (Model (record { magma = w; claims = None })) true
-table_opens old said w o t = λ place saids h.
+pub magma_opens : (old : Work) (said : Line) (w : MagmaWork) → old ≡ Opening → BeginsNoProof said → OpensHead said (Some w) → Takes old said (Model (record { magma = w; claims = None })) true
+magma_opens old said w o none t = λ place saids h.
     let k : HasCome Opening place saids = subst (λ (z : Work). HasCome z place saids) o h in
-    let low : nat_le 1 w.size ≡ true = le-leb 1 w.size t.2.some in
-    let high : nat_le w.size 255 ≡ true = le-leb w.size 255 t.1 in
     record {
-      next = in_head (Lines.rows (rows_place w []));
-      stands = ap (λ (z : Place). after z (table_line said)) k.0 ∙ ap (λ (z : TableLine). after_opening (table_line z)) t.0 ∙ rw (low, high) refl;
-      come = ([], t.2, refl, ap (λ z. z ++ table_line said ∷ []) k.1 ∙ ap (λ (z : TableLine). table_line z ∷ []) t.0);
+      next = in_head t.0;
+      stands = ap (λ (z : Place). after z said) k.0 ∙ after_first said none ∙ ap (option_map in_head) t.1;
+      come = (t.0, subst (λ (z : List Line). HasHead w t.0 (z ++ said ∷ [])) (sym k.1) t.2, refl);
     }
 
-pub table_stays_shut : (old : Work) (said : TableLine) → old ≡ Opening → OpensTable said None → Takes old (table_line said) old false
-table_stays_shut old said o t = λ place saids h.
+pub magma_stays_shut : (old : Work) (said : Line) → old ≡ Opening → BeginsNoProof said → OpensHead said None → Takes old said old false
+magma_stays_shut old said o none t = λ place saids h.
     let k : HasCome Opening place saids = subst (λ (z : Work). HasCome z place saids) o h in
-    ap (λ (z : Place). after z (table_line said)) k.0 ∙ t
+    ap (λ (z : Place). after z said) k.0 ∙ after_first said none ∙ ap (option_map in_head) t
 
 pub claim_stays_shut : (old : Work) (said : ClaimLine) → old ≡ Opening → Takes old (claim_line said) old false
 claim_stays_shut old said o = λ place saids h.
@@ -243,16 +307,16 @@ claim_stays_shut old said o = λ place saids h.
 
 -- at the end
 pub model_whole : (w : ModelWork) (c : ClaimsWork) → w.claims ≡ Some c → c.failing ≡ true
-    → IsWhole (Model w) (Some (model (Bodies.table w.magma.size w.magma.entries) (claims_of c.claims)))
+    → IsWhole (Model w) (Some (model (told_by w.magma) (claims_of c.claims)))
 model_whole w c e set = λ place saids h.
     let k : HasModel w.magma (Some c) place saids = subst (λ o. HasModel w.magma o place saids) e h in (
-      ap is_complete k.5 ∙ rw set refl,
+      ap is_complete k.6 ∙ rw set refl,
       record {
-        head = map table_line (table w.magma.size ∷ map row k.0);
-        behind = k.1;
-        whole = k.6;
-        says_model = (table w.magma.size ∷ map row k.0, refl, record { rows = k.0; whole = refl; entries_are = k.2.entries_are });
-        says_claims = k.3.says;
+        head = k.1;
+        behind = k.2;
+        whole = k.7;
+        says_model = told_says w.magma k.0 k.1 k.3;
+        says_claims = k.4.says;
       },
     )
 
@@ -264,4 +328,4 @@ model_unclaimed w e = λ place saids h.
 pub model_unfailing : (w : ModelWork) (c : ClaimsWork) → w.claims ≡ Some c → c.failing ≡ false → IsWhole (Model w) None
 model_unfailing w c e set = λ place saids h.
     let k : HasModel w.magma (Some c) place saids = subst (λ o. HasModel w.magma o place saids) e h in
-    ap is_complete k.5 ∙ rw set refl
+    ap is_complete k.6 ∙ rw set refl

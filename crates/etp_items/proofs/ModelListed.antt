@@ -1,17 +1,17 @@
 -- The law numbers of claims and those of their lines.
-use Rattle.std.proofs.Common.{◌≡◌, ℕ, zero, suc, List, [], ◌∷◌, ◌++◌, length, take, drop, map, All, sym, ap, subst, ◌∙◌, append_assoc}
+use Rattle.std.proofs.Common.{◌≡◌, ℕ, zero, suc, List, [], ◌∷◌, ◌++◌, length, drop, map, All, ap, subst, ◌∙◌}
 use Rattle.std.specs.List.{concat, AllByRecursion}
-use Rattle.std.proofs.lemmas.List.Elements.{All-nil, All-cons, All-append, All-from_recursion, recursion_from_All, All-take, All-drop, All-head, All-tail}
-use Rattle.etp_theory.specs.Numbered.{IsLaw}
+use Rattle.std.proofs.lemmas.List.Elements.{All-nil, All-cons, All-append, All-take, All-drop, All-head, All-tail}
+use Rattle.etp_theory.specs.LawNumbers.{IsLaw}
 use Rattle.etp_reading.specs.Reading.{AreListed}
 use Rattle.etp_items.specs.TableLines.{TableLine, table, row}
 use Rattle.etp_items.specs.Claims.{ClaimLine, holds, fails, Claims}
-use Rattle.etp_items.specs.BodyLines.{Line, table_line, claim_line, numbers_of, bodies}
+use Rattle.etp_items.specs.BodyLines.{Line, table_line, linear_line, claim_line, numbers_of, bodies}
 use Rattle.etp_items.specs.Bodies as Bodies
 use Rattle.etp_items.specs.Bodies.{Model}
-use Rattle.etp_items.specs.Reading.{SaysClaimed}
+use Rattle.etp_items.specs.Reading.{SaysModel, SaysClaimed}
 use Rattle.etp_items.specs.Written.{pieces, cut, claim_lines}
-use Rattle.etp_items.proofs.ModelReads.{model_lines}
+use Rattle.etp_items.proofs.ModelReads.{head_lines, model_lines}
 
 -- the law numbers of a line are listed
 abbrev pub HasListed : ℕ → Line → Type 0
@@ -20,6 +20,11 @@ HasListed count l = All (IsLaw count) (numbers_of l)
 tables_past : (count : ℕ) (ts : List TableLine) (ls : List Line) → AreListed bodies count (map table_line ts ++ ls) → AreListed bodies count ls
 tables_past count [] ls h = h
 tables_past count (t ∷ ts) ls h = tables_past count ts ls (All-tail (HasListed count) (table_line t) (map table_line ts ++ ls) h)
+
+-- the lines of a magma have no law numbers
+head_past : (count : ℕ) (head : List Line) (m : Model) (ls : List Line) → SaysModel head m → AreListed bodies count (head ++ ls) → AreListed bodies count ls
+head_past count head (Bodies.table size entries) ls (lines, e, s) h = tables_past count lines ls (subst (λ (z : List Line). AreListed bodies count (z ++ ls)) e h)
+head_past count head (Bodies.linear l) ls e h = All-tail (HasListed count) (linear_line l) ls (subst (λ (z : List Line). AreListed bodies count (z ++ ls)) e h)
 
 held_listed : (count : ℕ) (hs : List (List ℕ)) (rest : List ClaimLine) → AreListed bodies count (map claim_line (map holds hs ++ rest)) → All (IsLaw count) (concat hs) × AreListed bodies count (map claim_line rest)
 held_listed count [] rest h = (All-nil (IsLaw count), h)
@@ -35,12 +40,11 @@ failed_listed count (f ∷ fs) h =
     All-append (IsLaw count) f (concat fs) (All-head (HasListed count) (claim_line (fails f)) more h) (failed_listed count fs (All-tail (HasListed count) (claim_line (fails f)) more h))
 
 pub model_numbers : (count : ℕ) (saids : List Line) (m : Model) (c : Claims) → SaysClaimed saids m c → AreListed bodies count saids → All (IsLaw count) (c.holds ++ c.fails)
-model_numbers count saids (Bodies.table size entries) c s listed =
+model_numbers count saids m c s listed =
     let e = s.says_claims in
     let rest = map claim_line (map holds e.held ++ map fails e.failed) in
-    let whole : saids ≡ map table_line s.says_model.0 ++ rest =
-    s.whole ∙ ap (λ z. z ++ map claim_line s.behind) s.says_model.1 ∙ ap (λ z. map table_line s.says_model.0 ++ map claim_line z) e.whole in
-    let held = held_listed count e.held (map fails e.failed) (tables_past count s.says_model.0 rest (subst (AreListed bodies count) whole listed)) in
+    let whole : saids ≡ s.head ++ rest = s.whole ∙ ap (λ z. s.head ++ map claim_line z) e.whole in
+    let held = held_listed count e.held (map fails e.failed) (head_past count s.head m rest s.says_model (subst (AreListed bodies count) whole listed)) in
     All-append (IsLaw count) c.holds c.fails (rw e.holds_are held.0) (rw e.fails_are (failed_listed count e.failed held.1))
 
 pieces_listed : (count n k : ℕ) (xs : List ℕ) → All (IsLaw count) xs → AllByRecursion (All (IsLaw count)) (pieces n k xs)
@@ -60,6 +64,10 @@ tables_back : (count : ℕ) (ts : List TableLine) (ls : List Line) → AreListed
 tables_back count [] ls h = h
 tables_back count (t ∷ ts) ls h = All-cons (HasListed count) (table_line t) (map table_line ts ++ ls) (All-nil (IsLaw count)) (tables_back count ts ls h)
 
+head_back : (count : ℕ) (m : Model) (ls : List Line) → AreListed bodies count ls → AreListed bodies count (head_lines m ++ ls)
+head_back count (Bodies.table size entries) ls h = tables_back count (table size ∷ map row (cut size entries)) ls h
+head_back count (Bodies.linear l) ls h = All-cons (HasListed count) (linear_line l) ls (All-nil (IsLaw count)) h
+
 front_of : (count : ℕ) (xs ys : List ℕ) → All (IsLaw count) (xs ++ ys) → All (IsLaw count) xs × All (IsLaw count) ys
 front_of count [] ys h = (All-nil (IsLaw count), h)
 front_of count (x ∷ xs) ys h =
@@ -67,8 +75,8 @@ front_of count (x ∷ xs) ys h =
     (All-cons (IsLaw count) x xs (All-head (IsLaw count) x (xs ++ ys) h) on.0, on.1)
 
 pub model_listed : (count : ℕ) (m : Model) (c : Claims) → All (IsLaw count) (c.holds ++ c.fails) → AreListed bodies count (model_lines m c)
-model_listed count (Bodies.table size entries) c h =
+model_listed count m c h =
     let both = front_of count c.holds c.fails h in
-    tables_back count (table size ∷ map row (cut size entries)) (map claim_line (claim_lines c))
+    head_back count m (map claim_line (claim_lines c))
     (holds_back count (cut 100 c.holds) (map fails (cut 100 c.fails)) (pieces_listed count 100 (length c.holds) c.holds both.0)
     (fails_back count (cut 100 c.fails) (pieces_listed count 100 (length c.fails) c.fails both.1)))

@@ -1,26 +1,25 @@
 -- The written lines of a magma and its claims are read back.
-use Rattle.std.proofs.Common.{◌≡◌, ℕ, zero, suc, ◌+◌, ◌*◌, ◌<◌, ◌≤◌, ◌^◌, ◌&&◌, arith, Bool, true, false, nat_le, nat_lt, nat_eq, List, [], ◌∷◌, ◌++◌, length, take, drop, map, All, codes, decimal, refl, sym, ap, subst, ◌∙◌, inl, inr, Option, Some, None, append_assoc, append-nil, length-append, suc-mul}
-use Rattle.std.specs.Option.{option_map}
-use Rattle.std.specs.List.{concat, list_all, AllByRecursion}
+use Rattle.std.proofs.Common.{◌≡◌, ℕ, zero, suc, ◌+◌, ◌*◌, ◌<◌, ◌≤◌, ◌^◌, arith, true, nat_le, nat_lt, nat_eq, List, [], ◌∷◌, ◌++◌, length, take, drop, map, codes, decimal, refl, sym, ap, subst, ◌∙◌, inr, Some, append-nil, length-append, suc-mul}
+use Rattle.std.specs.List.{list_all, AllByRecursion}
 use Rattle.std.proofs.lemmas.Bool.{le-leb, lt-ltb, eq-eqb}
-use Rattle.std.proofs.lemmas.List.{length-take, length-drop, take_all}
-use Rattle.std.proofs.lemmas.List.Elements.{recursion_from_All, All-take, All-drop}
+use Rattle.std.proofs.lemmas.List.{length-take, length-drop}
+use Rattle.std.proofs.lemmas.List.Elements.{recursion_from_All}
 use Rattle.std.proofs.lemmas.Fmt.{length-decimal-le}
-use Rattle.etp_io.specs.Texts.{LineText, whole, lines_of}
+use Rattle.etp_io.specs.Texts.{LineText, lines_of}
 use Rattle.etp_words.specs.Words.{words_of}
-use Rattle.etp_words.specs.Numbers.{number_of}
 use Rattle.etp_reading.specs.Reading.{Reads, AreWhole}
-use Rattle.etp_items.specs.TableLines.{TableLine, table, row, Rows, after_in_table}
+use Rattle.etp_items.specs.TableLines.{table, row}
 use Rattle.etp_items.specs.Claims.{ClaimLine, holds, fails, holding, failing, Claims, numbers_said, SaysNumbers}
 use Rattle.etp_items.specs.BodyLines as Lines
-use Rattle.etp_items.specs.BodyLines.{Line, of_proofs, of_tables, of_claims, Place, opening, in_head, in_claims, table_line, claim_line, Says, after, after_opening, bodies}
+use Rattle.etp_items.specs.BodyLines.{Line, of_proofs, of_tables, of_linear, of_claims, Head, is_told, Place, opening, in_head, in_claims, table_line, linear_line, claim_line, Says, after, after_opening, bodies}
 use Rattle.etp_items.specs.Bodies as Bodies
 use Rattle.etp_items.specs.Bodies.{Model, model}
-use Rattle.etp_items.specs.Reading.{SaysClaimed, IsBody}
-use Rattle.etp_items.specs.Written.{written_by, written_proof_line, spaced_behind, written_numbers, written_table_line, written_claim_line, pieces, cut, model_text, claim_lines, written_body, AreNumbers, IsWritableModel, AreWritableClaims}
-use Rattle.etp_items.proofs.ReadBack.{both, together, joined, is_text, graph_text, IsWord, words_front, words_last, decimal_number, decimal_word}
+use Rattle.etp_items.specs.Reading.{SaysModel, SaysClaimed}
+use Rattle.etp_items.specs.Written.{written_by, written_proof_line, spaced_behind, written_numbers, written_table_line, written_linear, written_claim_line, pieces, cut, model_text, claim_lines, written_body, IsWritableLinear, IsWritableModel, AreWritableClaims}
+use Rattle.etp_items.proofs.ReadBack.{joined, is_text, graph_text, IsWord, words_front, words_last, decimal_number, decimal_word}
 use Rattle.etp_items.proofs.NumberLemmas.{cut_joined, written_join, written_map}
-use Rattle.etp_items.proofs.TextLines.{as_given, given_length, IsTextLine, lines_back}
+use Rattle.etp_items.proofs.LinearLemmas.{linear_back, linear_text}
+use Rattle.etp_items.proofs.TextLines.{as_given, IsTextLine, lines_back}
 
 -- numbers below 2^32
 abbrev pub Small : ℕ → Type 0
@@ -74,13 +73,15 @@ fails_word = record { some = omega arith; graph = refl }
 abbrev pub written_any : Line → List ℕ
 written_any (of_proofs, said) = written_proof_line said
 written_any (of_tables, said) = written_table_line said
+written_any (of_linear, said) = written_linear said
 written_any (of_claims, said) = written_claim_line said
 
--- a line of numbers that are small and not too many
+-- a line of numbers that are small and not too many, or of a magma that can be written
 abbrev pub IsFewLine : Line → Type 0
 IsFewLine (of_proofs, said) = ⊥
 IsFewLine (of_tables, table size) = Small size
 IsFewLine (of_tables, row entries) = (length entries ≤ 255) × AllByRecursion Small entries
+IsFewLine (of_linear, l) = IsWritableLinear l
 IsFewLine (of_claims, holds numbers) = (0 < length numbers) × (length numbers ≤ 255) × AllByRecursion Small numbers
 IsFewLine (of_claims, fails numbers) = (0 < length numbers) × (length numbers ≤ 255) × AllByRecursion Small numbers
 
@@ -88,6 +89,7 @@ few_text : (l : Line) → IsFewLine l → IsTextLine written_any l
 few_text (of_proofs, said) h = absurd h
 few_text (of_tables, table size) h = numbers_text (codes "table") (size ∷ []) table_word (omega arith) (omega arith) (h, tt)
 few_text (of_tables, row entries) h = numbers_text (codes "row") entries row_word (omega arith) h.0 h.1
+few_text (of_linear, l) h = linear_text l h
 few_text (of_claims, holds numbers) h = numbers_text (codes "holds") numbers holds_word (omega arith) h.1 h.2
 few_text (of_claims, fails numbers) h = numbers_text (codes "fails") numbers fails_word (omega arith) h.1 h.2
 
@@ -105,6 +107,7 @@ few_back (of_tables, table size) h =
     let s = numbers_back (codes "table") (size ∷ []) table_word (h, tt) in
     record { word = decimal size; words = words_spaced (codes "table") table_word (size ∷ []) (h, tt); said = decimal_number size h }
 few_back (of_tables, row entries) h = numbers_back (codes "row") entries row_word h.1
+few_back (of_linear, l) h = linear_back l h
 few_back (of_claims, holds numbers) h = record { says = numbers_back (codes "holds") numbers holds_word h.2; some = not_empty numbers h.0 }
 few_back (of_claims, fails numbers) h = record { says = numbers_back (codes "fails") numbers fails_word h.2; some = not_empty numbers h.0 }
 
@@ -140,8 +143,8 @@ read_held [] f fs small = reads_one (in_claims holding) (in_claims failing) (in_
 read_held (k ∷ hs) f fs small =
     reads_one (in_claims holding) (in_claims holding) (in_claims failing) (claim_line (holds k)) (map claim_line (map holds hs ++ map fails (f ∷ fs))) small.0 refl (read_held hs f fs small.1)
 
-claim_stands : (size : ℕ) (k : List ℕ) → after (in_head (Lines.rows (record { size = size; count = size }))) (claim_line (holds k)) ≡ Some (in_claims holding)
-claim_stands size k = let eq : nat_eq size size ≡ true = eq-eqb size size refl in rw eq refl
+claim_stands : (head : Head) (k : List ℕ) → is_told head ≡ true → after (in_head head) (claim_line (holds k)) ≡ Some (in_claims holding)
+claim_stands head k told = rw told refl
 
 size_stands : (size : ℕ) → 1 ≤ size → size ≤ 255 → after opening (table_line (table size)) ≡ Some (in_head (Lines.rows (record { size = size; count = 0 })))
 size_stands size low high =
@@ -194,33 +197,44 @@ held_few : (hs : List (List ℕ)) (rest : List ClaimLine) → AllByRecursion (λ
 held_few [] rest h k = k
 held_few (r ∷ hs) rest h k = (h.0, held_few hs rest h.1 k)
 
--- the lines of a written body
+-- the lines of a written magma
+abbrev pub head_lines : Model → List Line
+head_lines (Bodies.table size entries) = table_line (table size) ∷ map table_line (map row (cut size entries))
+head_lines (Bodies.linear l) = linear_line l ∷ []
+
+-- and those of a written body
 abbrev pub model_lines : Model → Claims → List Line
-model_lines (Bodies.table size entries) c = table_line (table size) ∷ (map table_line (map row (cut size entries)) ++ map claim_line (claim_lines c))
+model_lines m c = head_lines m ++ map claim_line (claim_lines c)
+
+claims_few : (c : Claims) → AreWritableClaims c → AllByRecursion IsFewLine (map claim_line (claim_lines c))
+claims_few c k =
+    held_few (cut 100 c.holds) (map fails (cut 100 c.fails)) (pieces_few 100 (length c.holds) c.holds (omega arith) (omega arith) (recursion_from_All Small c.holds k.holds_small))
+    (failed_few (cut 100 c.fails) (pieces_few 100 (length c.fails) c.fails (omega arith) (omega arith) (recursion_from_All Small c.fails k.fails_small)))
 
 model_few : (m : Model) (c : Claims) → IsWritableModel m → AreWritableClaims c → AllByRecursion IsFewLine (model_lines m c)
 model_few (Bodies.table size entries) c w k = (
   omega (arith, w.1),
-  rows_few (cut size entries) (pieces_few size (length entries) entries w.0 w.1 (recursion_from_All Small entries w.3)) (map claim_line (claim_lines c))
-      (held_few (cut 100 c.holds) (map fails (cut 100 c.fails)) (pieces_few 100 (length c.holds) c.holds (omega arith) (omega arith) (recursion_from_All Small c.holds k.holds_small))
-      (failed_few (cut 100 c.fails) (pieces_few 100 (length c.fails) c.fails (omega arith) (omega arith) (recursion_from_All Small c.fails k.fails_small)))),
+  rows_few (cut size entries) (pieces_few size (length entries) entries w.0 w.1 (recursion_from_All Small entries w.3)) (map claim_line (claim_lines c)) (claims_few c k),
 )
+model_few (Bodies.linear l) c w k = (w, claims_few c k)
 
-claims_read_back : (size : ℕ) (hs fs : List (List ℕ)) → 0 < length hs → 0 < length fs → AllByRecursion IsFewLine (map claim_line (map holds hs ++ map fails fs))
-    → Reads bodies (in_head (Lines.rows (record { size = size; count = size }))) (as_given written_any (map claim_line (map holds hs ++ map fails fs))) (map claim_line (map holds hs ++ map fails fs)) (in_claims failing)
-claims_read_back size [] fs some more small = absurd (omega (arith, some))
-claims_read_back size (k ∷ hs) [] some more small = absurd (omega (arith, more))
-claims_read_back size (k ∷ hs) (f ∷ fs) some more small =
-    reads_one (in_head (Lines.rows (record { size = size; count = size }))) (in_claims holding) (in_claims failing) (claim_line (holds k)) (map claim_line (map holds hs ++ map fails (f ∷ fs))) small.0 (claim_stands size k)
+claims_read_back : (head : Head) (hs fs : List (List ℕ)) → is_told head ≡ true → 0 < length hs → 0 < length fs → AllByRecursion IsFewLine (map claim_line (map holds hs ++ map fails fs))
+    → Reads bodies (in_head head) (as_given written_any (map claim_line (map holds hs ++ map fails fs))) (map claim_line (map holds hs ++ map fails fs)) (in_claims failing)
+claims_read_back head [] fs told some more small = absurd (omega (arith, some))
+claims_read_back head (k ∷ hs) [] told some more small = absurd (omega (arith, more))
+claims_read_back head (k ∷ hs) (f ∷ fs) told some more small =
+    reads_one (in_head head) (in_claims holding) (in_claims failing) (claim_line (holds k)) (map claim_line (map holds hs ++ map fails (f ∷ fs))) small.0 (claim_stands head k told)
     (read_held hs f fs small.1)
 
 some_pieces : (n : ℕ) (xs : List ℕ) → 0 < length xs → 0 < length (cut n xs)
 some_pieces n [] h = absurd (omega (arith, h))
 some_pieces n (x ∷ xs) h = omega arith
 
-skip_rows : (rs : List (List ℕ)) (rest : List Line) → AllByRecursion IsFewLine (map table_line (map row rs) ++ rest) → AllByRecursion IsFewLine rest
-skip_rows [] rest h = h
-skip_rows (r ∷ rs) rest h = skip_rows rs rest h.1
+-- claims behind a magma that is told
+claims_behind : (head : Head) (c : Claims) → is_told head ≡ true → AreWritableClaims c
+    → Reads bodies (in_head head) (as_given written_any (map claim_line (claim_lines c))) (map claim_line (claim_lines c)) (in_claims failing)
+claims_behind head c told k =
+    claims_read_back head (cut 100 c.holds) (cut 100 c.fails) told (some_pieces 100 c.holds k.some_hold) (some_pieces 100 c.fails k.some_fail) (claims_few c k)
 
 pub model_read : (m : Model) (c : Claims) → IsWritableModel m → AreWritableClaims c → Reads bodies opening (as_given written_any (model_lines m c)) (model_lines m c) (in_claims failing)
 model_read (Bodies.table size entries) c w k =
@@ -228,30 +242,38 @@ model_read (Bodies.table size entries) c w k =
     let rows = cut size entries in
     let exact = rows_exact size size (length entries) entries w.0 w.2 (omega arith) in
     let rest = map claim_line (claim_lines c) in
-    let claims = claims_read_back size (cut 100 c.holds) (cut 100 c.fails) (some_pieces 100 c.holds k.some_hold) (some_pieces 100 c.fails k.some_fail) (skip_rows rows rest few.1) in
+    let claims = claims_behind (Lines.rows (record { size = size; count = size })) c (eq-eqb size size refl) k in
     reads_one opening (in_head (Lines.rows (record { size = size; count = 0 }))) (in_claims failing) (table_line (table size)) (map table_line (map row rows) ++ rest) few.0 (size_stands size w.0 w.1)
     (read_rows size 0 rows rest (in_claims failing) (omega (arith, exact.1)) exact.0 few.1
     (subst (λ n. Reads bodies (in_head (Lines.rows (record { size = size; count = n }))) (as_given written_any rest) rest (in_claims failing)) (let e : size ≡ 0 + length rows = omega (arith, exact.1) in e) claims))
+model_read (Bodies.linear l) c w k =
+    reads_one opening (in_head (Lines.linear l)) (in_claims failing) (linear_line l) (map claim_line (claim_lines c)) w refl (claims_behind (Lines.linear l) c refl k)
+
+-- the text of the lines of a magma
+head_text : (m : Model) → model_text m ≡ written_by written_any (head_lines m)
+head_text (Bodies.table size entries) = ap (λ z. written_table_line (table size) ++ 10 ∷ z) (sym (written_map written_any table_line (map row (cut size entries))))
+head_text (Bodies.linear l) = refl
 
 -- and what the text has
 text_lines : (m : Model) (c : Claims) → written_body (model m c) ≡ written_by written_any (model_lines m c)
-text_lines (Bodies.table size entries) c =
-    let rows = map table_line (map row (cut size entries)) in
-    let rest = map claim_line (claim_lines c) in
-    ap (λ z. (written_table_line (table size) ++ 10 ∷ z) ++ written_by written_claim_line (claim_lines c)) (sym (written_map written_any table_line (map row (cut size entries))))
-    ∙ append_assoc (written_table_line (table size)) (10 ∷ written_by written_any rows) (written_by written_claim_line (claim_lines c))
-    ∙ ap (λ z. written_table_line (table size) ++ 10 ∷ (written_by written_any rows ++ z)) (sym (written_map written_any claim_line (claim_lines c)))
-    ∙ ap (λ z. written_table_line (table size) ++ 10 ∷ z) (sym (written_join written_any rows rest))
+text_lines m c =
+    ap (λ z. z ++ written_by written_claim_line (claim_lines c)) (head_text m)
+    ∙ ap (λ z. written_by written_any (head_lines m) ++ z) (sym (written_map written_any claim_line (claim_lines c)))
+    ∙ sym (written_join written_any (head_lines m) (map claim_line (claim_lines c)))
 
 pub model_given : (m : Model) (c : Claims) → IsWritableModel m → AreWritableClaims c → lines_of (written_body (model m c)) ≡ as_given written_any (model_lines m c)
 model_given m c w k = ap lines_of (text_lines m c) ∙ lines_back written_any (model_lines m c) (few_texts (model_lines m c) (model_few m c w k))
 
+head_says : (m : Model) → IsWritableModel m → SaysModel (head_lines m) m
+head_says (Bodies.table size entries) w = (table size ∷ map row (cut size entries), refl, record { rows = cut size entries; whole = refl; entries_are = sym (cut_joined size entries w.0) })
+head_says (Bodies.linear l) w = refl
+
 pub model_says : (m : Model) (c : Claims) → IsWritableModel m → SaysClaimed (model_lines m c) m c
-model_says (Bodies.table size entries) c w = record {
-  head = map table_line (table size ∷ map row (cut size entries));
+model_says m c w = record {
+  head = head_lines m;
   behind = claim_lines c;
   whole = refl;
-  says_model = (table size ∷ map row (cut size entries), refl, record { rows = cut size entries; whole = refl; entries_are = sym (cut_joined size entries w.0) });
+  says_model = head_says m w;
   says_claims = record {
     held = cut 100 c.holds;
     failed = cut 100 c.fails;

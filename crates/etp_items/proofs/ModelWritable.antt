@@ -1,16 +1,17 @@
 -- A magma and its claims that were read can be written.
-use Rattle.std.proofs.Common.{◌≡◌, ℕ, ◌+◌, ◌*◌, ◌<◌, ◌≤◌, ◌^◌, ◌&&◌, arith, Bool, true, false, cond, nat_le, nat_lt, nat_eq, List, [], ◌∷◌, ◌++◌, length, map, All, refl, sym, ap, subst, ◌∙◌, inl, inr, Option, Some, None, append-nil, length-append, eqb-true, suc-mul}
+use Rattle.std.proofs.Common.{◌≡◌, ℕ, ◌+◌, ◌*◌, ◌<◌, ◌≤◌, ◌^◌, ◌&&◌, arith, Bool, true, false, cond, nat_le, nat_lt, nat_eq, List, [], ◌∷◌, ◌++◌, length, map, refl, sym, ap, subst, ◌∙◌, inl, inr, Option, Some, None, length-append, eqb-true, suc-mul}
 use Rattle.std.specs.Option.{option_map}
 use Rattle.std.specs.List.{concat, AllByRecursion}
 use Rattle.std.proofs.lemmas.Bool.{leb-true, ltb-true}
 use Rattle.std.proofs.lemmas.List.Elements.{All-nil, All-append, All-from_recursion}
 use Rattle.etp_io.specs.Texts.{LineText, whole, too_long}
-use Rattle.etp_words.specs.Numbers.{number_of}
+use Rattle.etp_words.specs.Numbers.{number_said}
 use Rattle.etp_reading.specs.Reading.{Reads}
-use Rattle.etp_items.specs.TableLines.{TableLine, table, row, Rows, opened_rows, after_row, after_in_table, SaysRows}
-use Rattle.etp_items.specs.Claims.{ClaimLine, holds, fails, ClaimPlace, holding, failing, first_claim, after_claim, Claims, SaysClaims, number_then, numbers_said, SaysNumbers}
+use Rattle.etp_linear.specs.Magmas.{LinearMagma}
+use Rattle.etp_items.specs.TableLines.{TableLine, table, row}
+use Rattle.etp_items.specs.Claims.{ClaimLine, holds, fails, ClaimPlace, holding, first_claim, Claims, number_then, numbers_said, SaysNumbers}
 use Rattle.etp_items.specs.BodyLines as Lines
-use Rattle.etp_items.specs.BodyLines.{Line, Place, opening, in_head, in_claims, table_line, claim_line, Says, after, after_opening, is_told, is_complete, bodies}
+use Rattle.etp_items.specs.BodyLines.{Line, Head, Place, opening, in_head, in_claims, table_line, linear_line, claim_line, Says, after, after_opening, is_told, is_complete, bodies}
 use Rattle.etp_items.specs.Bodies as Bodies
 use Rattle.etp_items.specs.Bodies.{Model}
 use Rattle.etp_items.specs.Reading.{SaysModel, SaysClaimed}
@@ -37,7 +38,7 @@ then_fits None m None ns e h = absurd (none_some ns h)
 pub numbers_fit : (ws : List (List ℕ)) (ns : List ℕ) → numbers_said ws ≡ Some ns → AllByRecursion (λ n. n < 2 ^ 32) ns
 numbers_fit [] ns e = let f : [] ≡ ns = cc in subst (AllByRecursion (λ n. n < 2 ^ 32)) f tt
 numbers_fit (w ∷ ws) ns e =
-    let t = then_fits (number_of w) (number_of w) (numbers_said ws) ns refl e in
+    let t = then_fits (number_said w) (number_said w) (numbers_said ws) ns refl e in
     subst (AllByRecursion (λ n. n < 2 ^ 32)) (sym t.4) (number_fits w t.0 t.2, numbers_fit ws t.1 t.3)
 
 pub numbers_small : (line first ns : List ℕ) → SaysNumbers line first ns → AreNumbers ns
@@ -90,7 +91,7 @@ pub record RowStands (size count : ℕ) (entries : List ℕ) (next : Place) : Ty
   pub there : next ≡ in_head (Lines.rows (record { size = size; count = count + 1 }))
 
 row_then : (b : Bool) (size count : ℕ) (entries : List ℕ) (next : Place) → (nat_lt count size && nat_eq (length entries) size) ≡ b
-    → option_map (λ r. in_head (Lines.rows r)) (cond b (Some (record { size = size; count = count + 1 })) None) ≡ Some next → RowStands size count entries next
+    → option_map in_head (option_map Lines.rows (cond b (Some (record { size = size; count = count + 1 })) None)) ≡ Some next → RowStands size count entries next
 row_then true size count entries next e h =
     let s = both (nat_lt count size) (nat_eq (length entries) size) e in
     let k : in_head (Lines.rows (record { size = size; count = count + 1 })) ≡ next = cc in
@@ -152,8 +153,8 @@ holding_read xs (k ∷ hs) fs q c h =
     holding_read r.behind hs fs q c (subst (λ (z : Place). Reads bodies z r.behind (map claim_line (map holds hs ++ map fails fs)) q) (sym there) r.reads)
 
 -- claims behind a magma
-pub record ClaimsRead (size count : ℕ) (held failed : List (List ℕ)) : Type 0 where
-  pub all : count ≡ size
+pub record ClaimsRead (head : Head) (held failed : List (List ℕ)) : Type 0 where
+  pub told : is_told head ≡ true
   pub some_hold : 0 < length (concat held)
   pub some_fail : 0 < length (concat failed)
 
@@ -161,20 +162,20 @@ first_then : (b : Bool) (o : Option ClaimPlace) (next : Place) → cond b (optio
 first_then true o next h = (refl, h)
 first_then false o next h = absurd (none_some next h)
 
-pub claims_read : (size count : ℕ) (xs : List LineText) (hs fs : List (List ℕ)) (q : Place) → is_complete q ≡ true
-    → Reads bodies (in_head (Lines.rows (record { size = size; count = count }))) xs (map claim_line (map holds hs ++ map fails fs)) q → ClaimsRead size count hs fs
-claims_read size count xs [] [] q c h = absurd (false_true (sym (ap is_complete (nothing_read (in_head (Lines.rows (record { size = size; count = count }))) xs q h)) ∙ c))
-claims_read size count xs [] (f ∷ fs) q c h =
-    let r = first_read (in_head (Lines.rows (record { size = size; count = count }))) xs (claim_line (fails f)) (map claim_line (map fails fs)) q h in
-    let s = first_then (nat_eq count size) (first_claim (fails f)) r.next r.stands in
+pub claims_read : (head : Head) (xs : List LineText) (hs fs : List (List ℕ)) (q : Place) → is_complete q ≡ true
+    → Reads bodies (in_head head) xs (map claim_line (map holds hs ++ map fails fs)) q → ClaimsRead head hs fs
+claims_read head xs [] [] q c h = absurd (false_true (sym (ap is_complete (nothing_read (in_head head) xs q h)) ∙ c))
+claims_read head xs [] (f ∷ fs) q c h =
+    let r = first_read (in_head head) xs (claim_line (fails f)) (map claim_line (map fails fs)) q h in
+    let s = first_then (is_told head) (first_claim (fails f)) r.next r.stands in
     absurd (none_some r.next s.1)
-claims_read size count xs (k ∷ hs) fs q c h =
-    let r = first_read (in_head (Lines.rows (record { size = size; count = count }))) xs (claim_line (holds k)) (map claim_line (map holds hs ++ map fails fs)) q h in
-    let s = first_then (nat_eq count size) (first_claim (holds k)) r.next r.stands in
+claims_read head xs (k ∷ hs) fs q c h =
+    let r = first_read (in_head head) xs (claim_line (holds k)) (map claim_line (map holds hs ++ map fails fs)) q h in
+    let s = first_then (is_told head) (first_claim (holds k)) r.next r.stands in
     let there : in_claims holding ≡ r.next = let e : Some (in_claims holding) ≡ Some r.next = s.1 in cc in
     let some = some_numbers k r.says.some in
     record {
-      all = eqb-true count size s.0;
+      told = s.0;
       some_hold = omega (arith, length-append k (concat hs));
       some_fail = holding_read r.behind hs fs q c (subst (λ (z : Place). Reads bodies z r.behind (map claim_line (map holds hs ++ map fails fs)) q) (sym there) r.reads);
     }
@@ -205,7 +206,7 @@ skip_tables (t ∷ ts) ls h = skip_tables ts ls h.1
 
 -- a size that stands
 size_then : (low high : Bool) (size : ℕ) (next : Place) → nat_le 1 size ≡ low → nat_le size 255 ≡ high
-    → option_map (λ r. in_head (Lines.rows r)) (cond (low && high) (Some (record { size = size; count = 0 })) None) ≡ Some next
+    → option_map in_head (option_map Lines.rows (cond (low && high) (Some (record { size = size; count = 0 })) None)) ≡ Some next
     → (1 ≤ size) × (size ≤ 255) × (next ≡ in_head (Lines.rows (record { size = size; count = 0 })))
 size_then true true size next l g h =
     let k : in_head (Lines.rows (record { size = size; count = 0 })) ≡ next = cc in
@@ -213,31 +214,71 @@ size_then true true size next l g h =
 size_then true false size next l g h = absurd (none_some next h)
 size_then false high size next l g h = absurd (none_some next h)
 
-pub model_writable : (lines : List LineText) (saids : List Line) (m : Model) (c : Claims) (q : Place) → is_complete q ≡ true → Reads bodies opening lines saids q
-    → AllByRecursion IsWritable saids → SaysClaimed saids m c → IsWritableModel m × AreWritableClaims c
-model_writable lines saids (Bodies.table size entries) c q complete reads writable s =
-    let t = s.says_model.2 in
-    let e = s.says_claims in
-    let rest = map claim_line (map holds e.held ++ map fails e.failed) in
-    let whole : saids ≡ table_line (table size) ∷ (map table_line (map row t.rows) ++ rest) =
-    s.whole ∙ ap (λ z. z ++ map claim_line s.behind) (s.says_model.1 ∙ ap (map table_line) t.whole) ∙ ap (λ z. map table_line (table size ∷ map row t.rows) ++ map claim_line z) e.whole in
+-- the lines of a magma that can be written, and claims behind them
+pub record HeadRead (m : Model) (held failed : List (List ℕ)) (rest : List Line) : Type 0 where
+  pub head : Head
+  pub writable : IsWritableModel m
+  pub claims : ClaimsRead head held failed
+  pub behind : AllByRecursion IsWritable rest
+
+table_read : (lines : List LineText) (saids : List Line) (size : ℕ) (entries : List ℕ) (hs fs : List (List ℕ)) (q : Place) → is_complete q ≡ true
+    → SaysModel saids (Bodies.table size entries) → Reads bodies opening lines (saids ++ map claim_line (map holds hs ++ map fails fs)) q
+    → AllByRecursion IsWritable (saids ++ map claim_line (map holds hs ++ map fails fs)) → HeadRead (Bodies.table size entries) hs fs (map claim_line (map holds hs ++ map fails fs))
+table_read lines saids size entries hs fs q complete says reads writable =
+    let t = says.2 in
+    let rest = map claim_line (map holds hs ++ map fails fs) in
+    let whole : saids ++ rest ≡ table_line (table size) ∷ (map table_line (map row t.rows) ++ rest) = ap (λ z. z ++ rest) (says.1 ∙ ap (map table_line) t.whole) in
     let f = first_read opening lines (table_line (table size)) (map table_line (map row t.rows) ++ rest) q (subst (λ (z : List Line). Reads bodies opening lines z q) whole reads) in
     let range = size_then (nat_le 1 size) (nat_le size 255) size f.next refl refl f.stands in
     let rows = rows_read size 0 f.behind t.rows rest q (subst (λ (z : Place). Reads bodies z f.behind (map table_line (map row t.rows) ++ rest) q) range.2 f.reads) in
-    let claims = claims_read size (0 + length t.rows) rows.behind e.held e.failed q complete rows.reads in
-    let many : length t.rows ≡ size = omega (arith, claims.all) in
-    let w = subst (AllByRecursion IsWritable) whole writable in
-    let behind = skip_tables (table size ∷ map row t.rows) rest w in
-    let held = held_small saids e.held (map fails e.failed) behind in (
-      (
+    let head = Lines.rows (record { size = size; count = 0 + length t.rows }) in
+    let claims = claims_read head rows.behind hs fs q complete rows.reads in
+    let all : length t.rows ≡ size = omega (arith, eqb-true (0 + length t.rows) size claims.told) in
+    record {
+      head = head;
+      writable = (
         range.0,
         range.1,
-        ap length t.entries_are ∙ concat_length size t.rows rows.long ∙ ap (λ n. n * size) many,
+        ap length t.entries_are ∙ concat_length size t.rows rows.long ∙ ap (λ n. n * size) all,
         rw t.entries_are (concat_small t.rows rows.small),
-      ),
+      );
+      claims = claims;
+      behind = skip_tables (table size ∷ map row t.rows) rest (subst (AllByRecursion IsWritable) whole writable);
+    }
+
+linear_read : (lines : List LineText) (saids : List Line) (l : LinearMagma) (hs fs : List (List ℕ)) (q : Place) → is_complete q ≡ true
+    → SaysModel saids (Bodies.linear l) → Reads bodies opening lines (saids ++ map claim_line (map holds hs ++ map fails fs)) q
+    → AllByRecursion IsWritable (saids ++ map claim_line (map holds hs ++ map fails fs)) → HeadRead (Bodies.linear l) hs fs (map claim_line (map holds hs ++ map fails fs))
+linear_read lines saids l hs fs q complete says reads writable =
+    let rest = map claim_line (map holds hs ++ map fails fs) in
+    let whole : saids ++ rest ≡ linear_line l ∷ rest = ap (λ z. z ++ rest) says in
+    let f = first_read opening lines (linear_line l) rest q (subst (λ (z : List Line). Reads bodies opening lines z q) whole reads) in
+    let there : in_head (Lines.linear l) ≡ f.next = let e : Some (in_head (Lines.linear l)) ≡ Some f.next = f.stands in cc in
+    let w = subst (AllByRecursion IsWritable) whole writable in
+    record {
+      head = Lines.linear l;
+      writable = w.0;
+      claims = claims_read (Lines.linear l) f.behind hs fs q complete (subst (λ (z : Place). Reads bodies z f.behind rest q) (sym there) f.reads);
+      behind = w.1;
+    }
+
+head_read : (lines : List LineText) (saids : List Line) (m : Model) (hs fs : List (List ℕ)) (q : Place) → is_complete q ≡ true
+    → SaysModel saids m → Reads bodies opening lines (saids ++ map claim_line (map holds hs ++ map fails fs)) q
+    → AllByRecursion IsWritable (saids ++ map claim_line (map holds hs ++ map fails fs)) → HeadRead m hs fs (map claim_line (map holds hs ++ map fails fs))
+head_read lines saids (Bodies.table size entries) hs fs q complete says reads w = table_read lines saids size entries hs fs q complete says reads w
+head_read lines saids (Bodies.linear l) hs fs q complete says reads w = linear_read lines saids l hs fs q complete says reads w
+
+pub model_writable : (lines : List LineText) (saids : List Line) (m : Model) (c : Claims) (q : Place) → is_complete q ≡ true → Reads bodies opening lines saids q
+    → AllByRecursion IsWritable saids → SaysClaimed saids m c → IsWritableModel m × AreWritableClaims c
+model_writable lines saids m c q complete reads writable s =
+    let e = s.says_claims in
+    let whole : saids ≡ s.head ++ map claim_line (map holds e.held ++ map fails e.failed) = s.whole ∙ ap (λ z. s.head ++ map claim_line z) e.whole in
+    let read = head_read lines s.head m e.held e.failed q complete s.says_model (subst (λ (z : List Line). Reads bodies opening lines z q) whole reads) (subst (AllByRecursion IsWritable) whole writable) in
+    let held = held_small saids e.held (map fails e.failed) read.behind in (
+      read.writable,
       record {
-        some_hold = rw e.holds_are claims.some_hold;
-        some_fail = rw e.fails_are claims.some_fail;
+        some_hold = rw e.holds_are read.claims.some_hold;
+        some_fail = rw e.fails_are read.claims.some_fail;
         holds_small = rw e.holds_are held.0;
         fails_small = rw e.fails_are (failed_small e.failed held.1);
       },

@@ -7,7 +7,7 @@ use Rattle.std.proofs.lemmas.List.{take-append-drop, length-drop, take_all}
 use Rattle.std.proofs.lemmas.Bool.{leb-true, leb-false}
 use Rattle.etp_io.specs.Texts.{begin_first}
 use Rattle.etp_words.specs.Words.{is_blank, goes_on, words_of}
-use Rattle.etp_words.specs.Numbers.{number_of}
+use Rattle.etp_words.specs.Numbers.{number_said}
 use Rattle.etp_items.specs.TableLines.{row}
 use Rattle.etp_items.specs.Claims.{number_then, numbers_said, holds, fails}
 use Rattle.etp_items.specs.Bodies as Bodies
@@ -26,13 +26,13 @@ none_then None = refl
 none_then (Some t) = refl
 
 -- one word more is a number
-pub numbers_next : (all rest word : List ℕ) (more : List (List ℕ)) (p : List ℕ) (n : ℕ) → words_of rest ≡ word ∷ more → Some n ≡ number_of word
+pub numbers_next : (all rest word : List ℕ) (more : List (List ℕ)) (p : List ℕ) (n : ℕ) → words_of rest ≡ word ∷ more → Some n ≡ number_said word
     → numbers_said (words_of all) ≡ numbers_behind p (numbers_said (words_of rest)) → numbers_said (words_of all) ≡ numbers_behind (p ++ n ∷ []) (numbers_said more)
 numbers_next all rest word more p n e f h =
     h ∙ ap (λ ws. numbers_behind p (numbers_said ws)) e ∙ ap (λ o. numbers_behind p (number_then o (numbers_said more))) (sym f) ∙ one_then p n (numbers_said more)
 
 -- one word more is none
-pub numbers_stop : (all rest word : List ℕ) (more : List (List ℕ)) (p : List ℕ) → words_of rest ≡ word ∷ more → None ≡ number_of word
+pub numbers_stop : (all rest word : List ℕ) (more : List (List ℕ)) (p : List ℕ) → words_of rest ≡ word ∷ more → None ≡ number_said word
     → numbers_said (words_of all) ≡ numbers_behind p (numbers_said (words_of rest)) → None ≡ numbers_said (words_of all)
 numbers_stop all rest word more p e f h =
     sym (h ∙ ap (λ ws. numbers_behind p (numbers_said ws)) e ∙ ap (λ o. numbers_behind p (number_then o (numbers_said more))) (sym f) ∙ ap (numbers_behind p) (none_then (numbers_said more)))

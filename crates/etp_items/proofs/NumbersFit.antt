@@ -2,7 +2,7 @@
 use Rattle.std.proofs.Common.{◌≡◌, ℕ, ◌<◌, ◌≤◌, ◌^◌, arith, Bool, true, false, cond, ◌&&◌, nat_le, List, length, refl, sym, Some, None}
 use Rattle.std.specs.List.{list_all}
 use Rattle.std.proofs.lemmas.Bool.{leb-true}
-use Rattle.etp_words.specs.Numbers.{is_digit, value_after, is_number, number_of}
+use Rattle.etp_words.specs.Numbers.{is_digit, value_after, is_number, number_said}
 use Rattle.etp_items.proofs.ReadBack.{both}
 
 number_small : (is : Bool) (w : List ℕ) (n : ℕ) → is ≡ is_number w → cond is (Some (value_after 0 w)) None ≡ Some n → n < 2 ^ 32
@@ -13,5 +13,5 @@ number_small true w n e f =
     let same : value_after 0 w ≡ n = cc in
     omega arith
 
-pub number_fits : (w : List ℕ) (n : ℕ) → number_of w ≡ Some n → n < 2 ^ 32
+pub number_fits : (w : List ℕ) (n : ℕ) → number_said w ≡ Some n → n < 2 ^ 32
 number_fits w n e = number_small (is_number w) w n refl e

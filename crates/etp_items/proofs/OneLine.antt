@@ -2,9 +2,10 @@
 use Rattle.std.proofs.Common.{◌≡◌, ℕ, true, false, List, [], ◌∷◌, sym, ap, subst, ◌∙◌, Some, None, eqb-true}
 use Rattle.etp_words.specs.Words.{words_of, is_comment, are_blank, IsBlankLine}
 use Rattle.etp_reading.specs.Grammars.{OneLine}
-use Rattle.etp_items.specs.BodyLines.{Kind, of_proofs, of_tables, of_claims, kind_named, LineOf, Line, Says, bodies}
+use Rattle.etp_items.specs.BodyLines.{Kind, of_proofs, of_tables, of_linear, of_claims, kind_named, LineOf, Line, Says, bodies}
 use Rattle.etp_items.proofs.OneProofLine as Proofs
 use Rattle.etp_items.proofs.OneTableLine as Tables
+use Rattle.etp_items.proofs.OneLinearLine as Linears
 use Rattle.etp_items.proofs.OneClaimLine as Claims
 
 some_none : (k : Kind) → Some k ≡ None → ⊥
@@ -27,6 +28,9 @@ first_word line (of_proofs, l) s =
 first_word line (of_tables, l) s =
     let begins = Tables.begins line l s in
     record { word = Tables.first_word l; more = begins.0; words = begins.1; named = Tables.first_word_kind l }
+first_word line (of_linear, l) s =
+    let begins = Linears.begins line l s in
+    record { word = Linears.first_word l; more = begins.0; words = begins.1; named = Linears.first_word_kind l }
 first_word line (of_claims, l) s =
     let begins = Claims.begins line l s in
     record { word = Claims.first_word l; more = begins.0; words = begins.1; named = Claims.first_word_kind l }
@@ -62,6 +66,7 @@ none_without line w l s = let f = first_word line l s in let e : f.word ∷ f.mo
 one_of_kind : (line : List ℕ) (k : Kind) (l m : LineOf k) → Says line (k, l) → Says line (k, m) → Path Line (k, l) (k, m)
 one_of_kind line of_proofs l m s t = ap (λ z. (of_proofs, z)) (Proofs.one_proof_line line l m s t)
 one_of_kind line of_tables l m s t = ap (λ z. (of_tables, z)) (Tables.one_table_line line l m s t)
+one_of_kind line of_linear l m s t = ap (λ z. (of_linear, z)) (Linears.one_linear_line line l m s t)
 one_of_kind line of_claims l m s t = ap (λ z. (of_claims, z)) (Claims.one_claim_line line l m s t)
 
 of_same_kind : (line : List ℕ) (j k : Kind) → j ≡ k → (l : LineOf j) (m : LineOf k) → Says line (j, l) → Says line (k, m) → Path Line (j, l) (k, m)

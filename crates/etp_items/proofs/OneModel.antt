@@ -1,9 +1,9 @@
 -- Lines tell one magma, and make one list of claims.
 use Rattle.std.proofs.Common.{◌≡◌, ℕ, List, [], ◌∷◌, ◌++◌, map, refl, sym, ap, ◌∙◌, Option, Some, None, append_assoc, append-nil}
 use Rattle.std.specs.List.{concat}
-use Rattle.etp_items.specs.TableLines.{TableLine, table, row, SaysRows}
-use Rattle.etp_items.specs.Claims.{ClaimLine, holds, fails, Claims, SaysClaims}
-use Rattle.etp_items.specs.BodyLines.{Line, of_proofs, of_tables, of_claims, table_line, claim_line}
+use Rattle.etp_items.specs.TableLines.{TableLine, table, row}
+use Rattle.etp_items.specs.Claims.{ClaimLine, holds, fails, Claims}
+use Rattle.etp_items.specs.BodyLines.{Line, of_tables, of_linear, of_claims, table_line, claim_line}
 use Rattle.etp_items.specs.Bodies.{Model}
 use Rattle.etp_items.specs.Bodies as Bodies
 use Rattle.etp_items.specs.Reading.{SaysModel, SaysClaimed}
@@ -28,6 +28,7 @@ fails_in (_ ∷ lines) = fails_in lines
 -- the magma that the first line begins
 abbrev pub model_in : List Line → Option Model
 model_in ((of_tables, table size) ∷ lines) = Some (Bodies.table size (entries_in lines))
+model_in ((of_linear, l) ∷ lines) = Some (Bodies.linear l)
 model_in _ = None
 
 rows_entries : (rs : List (List ℕ)) (ls : List Line) → entries_in (map table_line (map row rs) ++ ls) ≡ concat rs ++ entries_in ls
@@ -43,6 +44,7 @@ pub model_told : (head : List Line) (cs : List ClaimLine) (m : Model) → SaysMo
 model_told head cs (Bodies.table size entries) (lines, e, s) =
     ap (λ (z : List Line). model_in (z ++ map claim_line cs)) (e ∙ ap (map table_line) s.whole)
     ∙ ap (λ z. Some (Bodies.table size z)) (rows_entries s.rows (map claim_line cs) ∙ ap (λ z. concat s.rows ++ z) (claims_entries cs) ∙ append-nil (concat s.rows) ∙ sym s.entries_are)
+model_told head cs (Bodies.linear l) e = ap (λ (z : List Line). model_in (z ++ map claim_line cs)) e
 
 tables_hold : (ts : List TableLine) (ls : List Line) → holds_in (map table_line ts ++ ls) ≡ holds_in ls
 tables_hold [] ls = refl
@@ -51,6 +53,15 @@ tables_hold (t ∷ ts) ls = tables_hold ts ls
 tables_fail : (ts : List TableLine) (ls : List Line) → fails_in (map table_line ts ++ ls) ≡ fails_in ls
 tables_fail [] ls = refl
 tables_fail (t ∷ ts) ls = tables_fail ts ls
+
+-- the lines of a magma have no claims
+head_holds : (head : List Line) (m : Model) (ls : List Line) → SaysModel head m → holds_in (head ++ ls) ≡ holds_in ls
+head_holds head (Bodies.table size entries) ls (lines, e, s) = ap (λ z. holds_in (z ++ ls)) e ∙ tables_hold lines ls
+head_holds head (Bodies.linear l) ls e = ap (λ z. holds_in (z ++ ls)) e
+
+head_fails : (head : List Line) (m : Model) (ls : List Line) → SaysModel head m → fails_in (head ++ ls) ≡ fails_in ls
+head_fails head (Bodies.table size entries) ls (lines, e, s) = ap (λ z. fails_in (z ++ ls)) e ∙ tables_fail lines ls
+head_fails head (Bodies.linear l) ls e = ap (λ z. fails_in (z ++ ls)) e
 
 failed_hold : (fs : List (List ℕ)) → holds_in (map claim_line (map fails fs)) ≡ []
 failed_hold [] = refl
@@ -73,12 +84,10 @@ same_claims c d e f = ap (λ z. record { holds = z; fails = c.fails }) e ∙ ap 
 
 -- the laws of the claims are those of the lines
 pub claims_told : (saids : List Line) (m : Model) (c : Claims) → SaysClaimed saids m c → (holds_in saids ≡ c.holds) × (fails_in saids ≡ c.fails)
-claims_told saids (Bodies.table size entries) c s =
-    let ts = s.says_model.0 in
-    let whole : saids ≡ map table_line ts ++ map claim_line s.behind = s.whole ∙ ap (λ z. z ++ map claim_line s.behind) s.says_model.1 in
+claims_told saids m c s =
     let lines = s.says_claims.whole in (
-      ap holds_in whole ∙ tables_hold ts (map claim_line s.behind) ∙ ap (λ z. holds_in (map claim_line z)) lines ∙ held_hold s.says_claims.held s.says_claims.failed ∙ sym s.says_claims.holds_are,
-      ap fails_in whole ∙ tables_fail ts (map claim_line s.behind) ∙ ap (λ z. fails_in (map claim_line z)) lines ∙ held_fail s.says_claims.held s.says_claims.failed ∙ sym s.says_claims.fails_are,
+      ap holds_in s.whole ∙ head_holds s.head m (map claim_line s.behind) s.says_model ∙ ap (λ z. holds_in (map claim_line z)) lines ∙ held_hold s.says_claims.held s.says_claims.failed ∙ sym s.says_claims.holds_are,
+      ap fails_in s.whole ∙ head_fails s.head m (map claim_line s.behind) s.says_model ∙ ap (λ z. fails_in (map claim_line z)) lines ∙ held_fail s.says_claims.held s.says_claims.failed ∙ sym s.says_claims.fails_are,
     )
 
 pub model_is : (saids : List Line) (m : Model) (c : Claims) → SaysClaimed saids m c → model_in saids ≡ Some m

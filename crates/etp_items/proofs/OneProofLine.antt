@@ -5,7 +5,7 @@ use Rattle.etp_theory.specs.Positions.{Side}
 use Rattle.etp_theory.specs.Proofs.{ProofStep}
 use Rattle.etp_text.proofs.Answering.{same_term}
 use Rattle.etp_words.specs.Words.{words_of, behind_word}
-use Rattle.etp_words.specs.Numbers.{number_of}
+use Rattle.etp_words.specs.Numbers.{number_said}
 use Rattle.etp_items.specs.Sides.{SpellsSide}
 use Rattle.etp_items.specs.ProofLines.{Version, plain, citing, version_word, ProofLine, heading, cite, lemma, step, SaysHeading, SaysCite, SaysLemma, SaysStep, SaysProofLine, reference_of, reversed_of, position_named}
 use Rattle.etp_items.specs.BodyLines.{kind_named, of_proofs}
@@ -56,8 +56,8 @@ one_heading line v w e f g h p q =
     let b : p.first ≡ q.first = cc in
     let c : p.second ≡ q.second = cc in
     let i : v ≡ w = one_version v w a in
-    let j : e ≡ g = two_named number_of p.first q.first e g b p.from q.from in
-    let k : f ≡ h = two_named number_of p.second q.second f h c p.to q.to in
+    let j : e ≡ g = two_named number_said p.first q.first e g b p.from q.from in
+    let k : f ≡ h = two_named number_said p.second q.second f h c p.to q.to in
     cc
 
 -- the first word of a line that says this

@@ -1,7 +1,7 @@
 -- A line of a table says one thing, and its first word tells its kind.
 use Rattle.std.proofs.Common.{◌≡◌, ℕ, List, [], ◌∷◌, refl, sym, ap, ◌∙◌, arith, get_or, Option, Some, codes}
 use Rattle.etp_words.specs.Words.{words_of}
-use Rattle.etp_words.specs.Numbers.{number_of}
+use Rattle.etp_words.specs.Numbers.{number_said}
 use Rattle.etp_items.specs.TableLines.{TableLine, table, row, SaysTable, SaysTableLine}
 use Rattle.etp_items.specs.BodyLines.{kind_named, of_tables}
 use Rattle.etp_items.proofs.OneClaimLine.{same_numbers}
@@ -13,7 +13,7 @@ one_size : (line : List ℕ) (m n : ℕ) → SaysTable line m → SaysTable line
 one_size line m n p q =
     let e : (codes "table" ∷ p.word ∷ []) ≡ (codes "table" ∷ q.word ∷ []) = sym p.words ∙ q.words in
     let f : p.word ≡ q.word = cc in
-    some_same m n (sym p.said ∙ ap number_of f ∙ q.said)
+    some_same m n (sym p.said ∙ ap number_said f ∙ q.said)
 
 table_no_row : (line : List ℕ) (m n : List (List ℕ)) → words_of line ≡ codes "table" ∷ m → words_of line ≡ codes "row" ∷ n → ⊥
 table_no_row line m n p q =

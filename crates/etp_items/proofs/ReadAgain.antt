@@ -1,6 +1,6 @@
 -- What is written of a body that was read is read again.
 use Rattle.std.proofs.Common.{◌≡◌, ℕ, ◌≤◌, arith, Bool, true, List, [], ◌∷◌, length, map, All, refl, ap, ◌∙◌, inl, inr}
-use Rattle.etp_theory.specs.Numbered.{IsLaw}
+use Rattle.etp_theory.specs.LawNumbers.{IsLaw}
 use Rattle.etp_io.specs.Texts.{LineText, whole, too_long, lines_of}
 use Rattle.etp_reading.specs.Reading.{Reads, AreListed}
 use Rattle.etp_items.specs.Bodies.{ProofBody, FileBody, proof, model}

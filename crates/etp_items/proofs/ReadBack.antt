@@ -11,7 +11,7 @@ use Rattle.etp_theory.specs.Positions.{Side, to_left, to_right}
 use Rattle.etp_theory.specs.Proofs.{ProofStep}
 use Rattle.etp_proof.specs.Names.{IsNameByte, IsName}
 use Rattle.etp_words.specs.Words.{is_blank, skip_blanks, words_of, skip_word, behind_word}
-use Rattle.etp_words.specs.Numbers.{is_digit, value_after, number_of}
+use Rattle.etp_words.specs.Numbers.{is_digit, value_after, number_said}
 use Rattle.etp_items.specs.ProofLines.{reference_of, reversed_of, side_then, sides_of, position_named}
 use Rattle.etp_items.specs.Written.{reference_word, direction_word, side_letter, position_word}
 use Rattle.etp_words.proofs.WordLemmas.{words_of-append}
@@ -22,17 +22,17 @@ own = numerals_by_fold _ (search rules) value_after (search rules)
 small : (n : ℕ) → n < 2 ^ 32 → n < 2 ^ 64
 small n h = omega (arith, h)
 
-decimal_digits : (n : ℕ) → n < 2 ^ 32 → list_all is_digit (decimal n) ≡ true
+pub decimal_digits : (n : ℕ) → n < 2 ^ 32 → list_all is_digit (decimal n) ≡ true
 decimal_digits n h = digits_decimal own n (small n h)
 
-number_then : (word : List ℕ) (n : ℕ) → list_all is_digit word ≡ true → 1 ≤ length word → length word ≤ 10 → value_after 0 word ≡ n → n ≤ 4294967295 → number_of word ≡ Some n
+number_then : (word : List ℕ) (n : ℕ) → list_all is_digit word ≡ true → 1 ≤ length word → length word ≤ 10 → value_after 0 word ≡ n → n ≤ 4294967295 → number_said word ≡ Some n
 number_then word n d some short e few =
     let a : nat_le 1 (length word) ≡ true = le-leb 1 (length word) some in
     let b : nat_le (length word) 10 ≡ true = le-leb (length word) 10 short in
     let v : nat_le n 4294967295 ≡ true = le-leb n 4294967295 few in
     rw (d, a, b, e, v) refl
 
-pub decimal_number : (n : ℕ) → n < 2 ^ 32 → number_of (decimal n) ≡ Some n
+pub decimal_number : (n : ℕ) → n < 2 ^ 32 → number_said (decimal n) ≡ Some n
 decimal_number n h =
     number_then (decimal n) n (decimal_digits n h) (decimal_nonempty n (small n h)) (length-decimal-le 10 n (omega arith) (omega (arith, h)) (small n h)) (digits_value-decimal own n (small n h)) (omega (arith, h))
 
@@ -160,7 +160,7 @@ first_digit w b bytes e h =
     let k : b ≤ 57 = leb-true b 57 (both (nat_le 48 b) (nat_le b 57) (both (is_digit b) (list_all is_digit bytes) d).0).1 in
     ne_eqb b 99 (λ f. omega arith)
 
-plain_reference : (w : List ℕ) (n : ℕ) → list_all is_digit w ≡ true → number_of w ≡ Some n → reference_of w ≡ Some (n, false)
+plain_reference : (w : List ℕ) (n : ℕ) → list_all is_digit w ≡ true → number_said w ≡ Some n → reference_of w ≡ Some (n, false)
 plain_reference [] n d e = absurd (cc)
 plain_reference (b ∷ bytes) n d e =
     let c : nat_eq b 99 ≡ false = first_digit (b ∷ bytes) b bytes refl d in

@@ -3,7 +3,7 @@ use Rattle.std.proofs.Common.{◌≡◌, ℕ, ◌+◌, ◌<◌, add-one, List, [
 use Rattle.std.specs.Option.{option_map}
 use Rattle.std.proofs.Math.Seq.{drop-cons, drop-length}
 use Rattle.etp_theory.specs.Positions.{Side}
-use Rattle.etp_term.specs.Sides as Program
+use Rattle.etp_term.specs.Positions as Program
 use Rattle.etp_term.specs.declared.position.Side as Declared
 use Rattle.etp_items.specs.ProofLines.{side_of, side_then, sides_of}
 

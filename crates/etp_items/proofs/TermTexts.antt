@@ -6,7 +6,7 @@ use Rattle.std.specs.Int.{is_in_range}
 use Rattle.std.proofs.lemmas.Bool.{le-leb, leb-true}
 use Rattle.etp_theory.specs.Trees.{Tree, var, op, bound, leaves}
 use Rattle.etp_text.specs.Written.{sign, variable_name, written_part, written_term}
-use Rattle.etp_text.specs.Grammar.{IsName as IsLetters, SpellsTerm}
+use Rattle.etp_text.specs.Grammar.{IsIdentifier, SpellsTerm}
 use Rattle.etp_text.specs.Refusals.{side_limit}
 use Rattle.etp_text.proofs.Names.{variable_is_name}
 use Rattle.etp_text.proofs.Writing.{written_term_spells}
@@ -35,7 +35,7 @@ letters_text : (w : List ℕ) → AllByRecursion (λ b. is_ascii_alphanumeric b 
 letters_text [] h = refl
 letters_text (b ∷ w) h = together (is_text b) (list_all is_text w) (alphanumeric_text b h.0) (letters_text w h.1)
 
-letters_word : (w : List ℕ) → IsLetters w → list_all is_text w ≡ true
+letters_word : (w : List ℕ) → IsIdentifier w → list_all is_text w ≡ true
 letters_word [] h = absurd h
 letters_word (b ∷ w) h = together (is_text b) (list_all is_text w) (alphabetic_text b h.0) (letters_text w h.1)
 

@@ -7,10 +7,10 @@ use Rattle.etp_items.proofs.WrittenReads.{written_body_reads}
 use Rattle.etp_items.proofs.Writable.{body_writable}
 use Rattle.etp_items.proofs.ReadAgain.{written_body_read_again, listed_numbers}
 use Rattle.etp_items.proofs.ShortLines.{valid_body_short}
-use Rattle.etp_items.specs.Theorems.{BodyLaws}
+use Rattle.etp_items.specs.Theorems.{BodyTheorems}
 
-pub body_laws : BodyLaws
-body_laws = record {
+pub body_theorems : BodyTheorems
+body_theorems = record {
   one_line = one_line;
   blank_line = blank_line;
   one_body = one_body;

@@ -1,23 +1,24 @@
 -- What is read can be written.
-use Rattle.std.proofs.Common.{◌≡◌, ℕ, ◌+◌, ◌<◌, ◌≤◌, ◌^◌, arith, Bool, true, false, cond, ◌&&◌, nat_le, nat_lt, nat_eq, List, [], ◌∷◌, ◌++◌, length, map, refl, sym, ap, subst, ◌∙◌, inl, inr, Option, Some, None}
-use Rattle.std.specs.List.{list_all, AllByRecursion}
+use Rattle.std.proofs.Common.{◌≡◌, ℕ, ◌+◌, ◌<◌, ◌≤◌, ◌^◌, arith, Bool, true, false, cond, nat_lt, nat_eq, List, [], ◌∷◌, ◌++◌, length, map, refl, sym, ap, subst, ◌∙◌, inl, inr, Option, Some, None}
+use Rattle.std.specs.List.{AllByRecursion}
 use Rattle.std.specs.Option.{option_map}
-use Rattle.std.proofs.lemmas.Bool.{leb-true, ltb-true}
+use Rattle.std.proofs.lemmas.Bool.{ltb-true}
 use Rattle.std.proofs.lemmas.List.Elements.{All-from_recursion}
 use Rattle.etp_theory.specs.Trees.{Tree, bound}
 use Rattle.etp_theory.specs.Proofs.{Lemma}
 use Rattle.etp_text.specs.Grammar.{Begins, IsAtom, IsSide, variable, enclosed, alone, joined, SpellsTerm}
 use Rattle.etp_io.specs.Texts.{LineText, whole, too_long}
-use Rattle.etp_words.specs.Numbers.{is_digit, value_after, is_number, number_of}
+use Rattle.etp_words.specs.Numbers.{number_said}
 use Rattle.etp_items.specs.TableLines.{table, row}
 use Rattle.etp_items.specs.Claims.{holds, fails}
 use Rattle.etp_items.specs.Bodies.{FileBody, proof, model}
 use Rattle.etp_reading.specs.Reading.{Reads}
 use Rattle.etp_items.specs.ProofLines.{Version, plain, citing, ProofLine, heading, cite, lemma, step, SaysProofLine, reference_of, headed, cite_limit}
-use Rattle.etp_items.specs.BodyLines.{Line, of_proofs, of_tables, of_claims, Place, opening, in_proof, proof_line, Says, after, is_complete, bodies}
+use Rattle.etp_items.specs.BodyLines.{Line, of_proofs, of_tables, of_linear, of_claims, Place, opening, in_proof, proof_line, Says, after, is_complete, bodies}
 use Rattle.etp_items.specs.Reading.{lemma_lines, proof_lines, IsBody}
 use Rattle.etp_items.specs.Written.{IsWritable, IsWritableProofLine, IsWritableBody, version_for}
 use Rattle.etp_items.proofs.NumbersFit.{number_fits}
+use Rattle.etp_items.proofs.LinearLemmas.{linear_writable}
 use Rattle.etp_items.proofs.ModelWritable.{numbers_small, model_writable}
 
 begins_split : (bytes : List ℕ) (ts us : List _) (rest : List ℕ) → Begins bytes (ts ++ us) rest → (middle : List ℕ) × Begins bytes ts middle × Begins middle us rest
@@ -55,9 +56,9 @@ mapped (Some n) c d m e = ap Some (ap (λ (q : ℕ × Bool). q.0) (some_same (n,
     some_same p q e = cc
 
 reference_then : (is : Bool) (b : ℕ) (bytes : List ℕ) (m : ℕ) (d : Bool)
-    → cond is (option_map (numbered true) (number_of bytes)) (option_map (numbered false) (number_of (b ∷ bytes))) ≡ Some (m, d) → m < 2 ^ 32
-reference_then true b bytes m d e = number_fits bytes m (mapped (number_of bytes) true d m e)
-reference_then false b bytes m d e = number_fits (b ∷ bytes) m (mapped (number_of (b ∷ bytes)) false d m e)
+    → cond is (option_map (numbered true) (number_said bytes)) (option_map (numbered false) (number_said (b ∷ bytes))) ≡ Some (m, d) → m < 2 ^ 32
+reference_then true b bytes m d e = number_fits bytes m (mapped (number_said bytes) true d m e)
+reference_then false b bytes m d e = number_fits (b ∷ bytes) m (mapped (number_said (b ∷ bytes)) false d m e)
 
 reference_fits : (w : List ℕ) (m : ℕ) (d : Bool) → reference_of w ≡ Some (m, d) → m < 2 ^ 32
 reference_fits [] m d e = absurd (cc)
@@ -74,6 +75,7 @@ says_writable : (line : List ℕ) (l : Line) → Says line l → IsWritable l
 says_writable line (of_proofs, l) s = proof_line_writable line l s
 says_writable line (of_tables, table size) s = number_fits s.word size s.said
 says_writable line (of_tables, row entries) s = numbers_small line _ entries s
+says_writable line (of_linear, l) s = linear_writable line l s
 says_writable line (of_claims, holds numbers) s = numbers_small line _ numbers s.says
 says_writable line (of_claims, fails numbers) s = numbers_small line _ numbers s.says
 

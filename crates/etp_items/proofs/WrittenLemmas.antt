@@ -2,7 +2,7 @@
 use Rattle.std.proofs.Common.{◌≡◌, ℕ, ◌+◌, ◌<◌, add-one, arith, Bool, true, false, not, ◌||◌, List, [], ◌∷◌, ◌++◌, length, take, get_or, map, refl, sym, ap, ◌∙◌, append_assoc, append-nil}
 use Rattle.std.proofs.Math.Seq.{take-suc}
 use Rattle.std.specs.List.{list_any}
-use Rattle.etp_term.specs.Sides.{side_of, position_of}
+use Rattle.etp_term.specs.Positions.{side_of, position_of}
 use Rattle.etp_term.specs.declared.position.Side.{Side}
 use Rattle.etp_proof.specs.Lemmas.{step_of, lemma_of}
 use Rattle.etp_proof.specs.declared.proof.Step.{Step}

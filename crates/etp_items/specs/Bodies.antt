@@ -3,8 +3,10 @@ use Rattle.std.specs.Prelude.{ℕ, List, map}
 use Rattle.etp_theory.specs.Proofs.{Lemma}
 use Rattle.etp_proof.specs.Lemmas.{lemma_of}
 use Rattle.etp_proof.specs.declared.proof.Proof.{Proof}
+use Rattle.etp_linear.specs.Magmas.{LinearMagma}
 use Rattle.etp_items.specs.Claims.{Claims}
 use Rattle.etp_items.specs.declared.body.Claims as Declared
+use Rattle.etp_items.specs.declared.body.LinearBody.{LinearBody}
 use Rattle.etp_items.specs.declared.body.Body.{Body}
 use Rattle.etp_items.specs.declared.body.Body.TheVariants as Program
 
@@ -20,6 +22,7 @@ pub record ProofBody : Type 0 where
 pub data Model : Type 0 where
   -- an operation table of this size with these entries, row by row
   table : ℕ → List ℕ → Model
+  linear : LinearMagma → Model
 
 -- what the lines of a file are
 pub data FileBody : Type 0 where
@@ -40,7 +43,12 @@ proof_of p = record {
 abbrev pub claims_of : Declared.Claims → Claims
 claims_of c = record { holds = c.holds; fails = c.fails }
 
+-- the linear magma
+abbrev pub linear_in : LinearBody → LinearMagma
+linear_in l = record { ring = l.ring; a = l.a; b = l.b; c = l.c }
+
 -- and the body
 abbrev pub body_of : Body → FileBody
 body_of (Program.Proof p) = proof (proof_of p)
 body_of (Program.Table t) = model (table t.size t.entries) (claims_of t.claims)
+body_of (Program.Linear l) = model (linear (linear_in l)) (claims_of l.claims)

@@ -1,16 +1,19 @@
 -- What a line of a body says, by its kind, and where it may stand.
-use Rattle.std.specs.Prelude.{◌≡◌, ◌||◌, ℕ, Bool, false, List, [], codes, nat_eq, if◌then◌else◌, Option, Some, None}
+use Rattle.std.specs.Prelude.{◌||◌, ℕ, Bool, true, false, List, [], codes, nat_eq, if◌then◌else◌, Option, Some, None}
 use Rattle.std.specs.Option.{option_map}
 use Rattle.etp_words.specs.Words.{is_word}
 use Rattle.etp_reading.specs.Grammars.{Grammar}
+use Rattle.etp_linear.specs.Magmas.{LinearMagma}
 use Rattle.etp_items.specs.ProofLines.{ProofLine, heading, SaysProofLine, numbers_of_proof_line, ProofPlace, headed, after_in_proof, is_complete_proof}
 use Rattle.etp_items.specs.TableLines.{TableLine, table, SaysTableLine, Rows, opened_rows, after_in_table}
+use Rattle.etp_items.specs.LinearLines.{SaysLinear}
 use Rattle.etp_items.specs.Claims.{ClaimLine, SaysClaimLine, numbers_of_claim, ClaimPlace, first_claim, after_claim, are_complete_claims}
 
 -- the kinds of lines
 pub data Kind : Type 0 where
   of_proofs : Kind
   of_tables : Kind
+  of_linear : Kind
   of_claims : Kind
 
 -- the kind of a line with this first word
@@ -20,12 +23,14 @@ kind_named word =
     || is_word word (codes "lemma") || is_word word (codes "step")
     then Some of_proofs
     else (if is_word word (codes "table") || is_word word (codes "row") then Some of_tables
-    else (if is_word word (codes "holds") || is_word word (codes "fails") then Some of_claims else None))
+    else (if is_word word (codes "linear") then Some of_linear
+    else (if is_word word (codes "holds") || is_word word (codes "fails") then Some of_claims else None)))
 
 -- what a line of a kind may say
 abbrev pub LineOf : Kind → Type 0
 LineOf of_proofs = ProofLine
 LineOf of_tables = TableLine
+LineOf of_linear = LinearMagma
 LineOf of_claims = ClaimLine
 
 -- what a line may say
@@ -38,6 +43,9 @@ proof_line said = (of_proofs, said)
 abbrev pub table_line : TableLine → Line
 table_line said = (of_tables, said)
 
+abbrev pub linear_line : LinearMagma → Line
+linear_line said = (of_linear, said)
+
 abbrev pub claim_line : ClaimLine → Line
 claim_line said = (of_claims, said)
 
@@ -45,21 +53,25 @@ claim_line said = (of_claims, said)
 abbrev pub Says : List ℕ → Line → Type 0
 Says line (of_proofs, said) = SaysProofLine line said
 Says line (of_tables, said) = SaysTableLine line said
+Says line (of_linear, said) = SaysLinear line said
 Says line (of_claims, said) = SaysClaimLine line said
 
 -- the law numbers of a line, from left to right
 abbrev pub numbers_of : Line → List ℕ
 numbers_of (of_proofs, said) = numbers_of_proof_line said
 numbers_of (of_tables, said) = []
+numbers_of (of_linear, said) = []
 numbers_of (of_claims, said) = numbers_of_claim said
 
 -- how far the lines before the claims have come, which tell a magma
 pub data Head : Type 0 where
   rows : Rows → Head
+  linear : LinearMagma → Head
 
 -- the magma is told
 abbrev pub is_told : Head → Bool
 is_told (rows r) = nat_eq r.count r.size
+is_told (linear l) = true
 
 -- how far a body has come
 pub data Place : Type 0 where
@@ -69,17 +81,31 @@ pub data Place : Type 0 where
   in_head : Head → Place
   in_claims : ClaimPlace → Place
 
+-- how far the lines of a magma have come with the first of them
+abbrev pub opened_head : Line → Option Head
+opened_head (of_tables, table size) = option_map rows (opened_rows size)
+opened_head (of_linear, l) = Some (linear l)
+opened_head _ = None
+
+-- and with one more of them
+abbrev pub next_head : Head → Line → Option Head
+next_head (rows r) (of_tables, said) = option_map rows (after_in_table r said)
+next_head _ _ = None
+
+-- a line that is none of a proof
+abbrev pub BeginsNoProof : Line → Type 0
+BeginsNoProof (of_proofs, said) = ⊥
+BeginsNoProof _ = Unit {0}
+
 -- how far a body has come with its first line
 abbrev pub after_opening : Line → Option Place
 after_opening (of_proofs, heading version hypothesis goal) = Some (in_proof (headed version 0))
-after_opening (of_tables, table size) = option_map (λ r. in_head (rows r)) (opened_rows size)
-after_opening _ = None
+after_opening said = option_map in_head (opened_head said)
 
 -- how far it has come with one more line that tells a magma, or with the first claim
 abbrev pub after_head : Head → Line → Option Place
-after_head (rows r) (of_tables, said) = option_map (λ next. in_head (rows next)) (after_in_table r said)
 after_head head (of_claims, said) = if is_told head then option_map in_claims (first_claim said) else None
-after_head _ _ = None
+after_head head said = option_map in_head (next_head head said)
 
 -- how far the body has come with one more line, where this line may stand there
 abbrev pub after : Place → Line → Option Place

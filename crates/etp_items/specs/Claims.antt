@@ -2,7 +2,7 @@
 use Rattle.std.specs.Prelude.{◌≡◌, ◌≢◌, ℕ, Bool, true, false, List, [], ◌∷◌, ◌++◌, codes, map, Option, Some, None}
 use Rattle.std.specs.List.{concat}
 use Rattle.etp_words.specs.Words.{words_of}
-use Rattle.etp_words.specs.Numbers.{number_of}
+use Rattle.etp_words.specs.Numbers.{number_said}
 
 -- one number and then others, where all are numbers
 abbrev pub number_then : Option ℕ → Option (List ℕ) → Option (List ℕ)
@@ -12,7 +12,7 @@ number_then _ _ = None
 -- the numbers that the words are, where each is one
 abbrev pub numbers_said : List (List ℕ) → Option (List ℕ)
 numbers_said [] = Some []
-numbers_said (word ∷ words) = number_then (number_of word) (numbers_said words)
+numbers_said (word ∷ words) = number_then (number_said word) (numbers_said words)
 
 -- a first word, and behind it numbers
 pub record SaysNumbers (line first numbers : List ℕ) : Type 0 where

@@ -1,6 +1,7 @@
 pub mod Sides
 pub mod Claims
 pub mod TableLines
+pub mod LinearLines
 pub mod Bodies
 pub mod ProofLines
 pub mod BodyLines

@@ -5,7 +5,7 @@ use Rattle.etp_theory.specs.Trees.{Tree}
 use Rattle.etp_theory.specs.Positions.{Side, to_left, to_right}
 use Rattle.etp_theory.specs.Proofs.{ProofStep}
 use Rattle.etp_words.specs.Words.{words_of, behind_word, is_word}
-use Rattle.etp_words.specs.Numbers.{number_of}
+use Rattle.etp_words.specs.Numbers.{number_said}
 use Rattle.etp_proof.specs.Names.{IsName}
 use Rattle.etp_items.specs.Sides.{SpellsSide}
 
@@ -32,7 +32,7 @@ pub data ProofLine : Type 0 where
 abbrev pub reference_of : List ℕ → Option (ℕ × Bool)
 reference_of [] = None
 reference_of (b ∷ bytes) =
-    if nat_eq b 99 then option_map (λ n. (n, true)) (number_of bytes) else option_map (λ n. (n, false)) (number_of (b ∷ bytes))
+    if nat_eq b 99 then option_map (λ n. (n, true)) (number_said bytes) else option_map (λ n. (n, false)) (number_said (b ∷ bytes))
 
 -- `>` reads the equation from left to right, `<` from right to left
 abbrev pub reversed_of : List ℕ → Option Bool
@@ -61,8 +61,8 @@ pub record SaysHeading (line : List ℕ) (version : Version) (hypothesis goal : 
   pub first : List ℕ
   pub second : List ℕ
   pub words : words_of line ≡ version_word version ∷ first ∷ second ∷ []
-  pub from : number_of first ≡ Some hypothesis
-  pub to : number_of second ≡ Some goal
+  pub from : number_said first ≡ Some hypothesis
+  pub to : number_said second ≡ Some goal
 
 -- `cite` and a name
 pub record SaysCite (line name : List ℕ) : Type 0 where

@@ -8,8 +8,8 @@ use Rattle.etp_reading.specs.declared.refusal.BodyRefusal.{BodyRefusal}
 use Rattle.etp_items.specs.ProofLines.{Version, ProofLine, heading, cite, lemma, step}
 use Rattle.etp_items.specs.TableLines.{TableLine, SaysRows}
 use Rattle.etp_items.specs.Claims.{ClaimLine, Claims, SaysClaims}
-use Rattle.etp_items.specs.BodyLines.{Line, proof_line, table_line, claim_line, bodies}
-use Rattle.etp_items.specs.Bodies.{ProofBody, Model, table, FileBody, proof, model}
+use Rattle.etp_items.specs.BodyLines.{Line, proof_line, table_line, linear_line, claim_line, bodies}
+use Rattle.etp_items.specs.Bodies.{ProofBody, Model, table, linear, FileBody, proof, model}
 
 -- the lines of lemmas: each lemma's start, and its steps
 abbrev pub lemma_lines : List Lemma → List ProofLine
@@ -24,6 +24,7 @@ proof_lines version p = heading version p.hypothesis p.goal ∷ (map cite p.cite
 abbrev pub SaysModel : List Line → Model → Type 0
 SaysModel saids (table size entries) =
     (lines : List TableLine) × (saids ≡ map table_line lines) × SaysRows lines size entries
+SaysModel saids (linear l) = saids ≡ linear_line l ∷ []
 
 -- lines that tell a magma, and behind them claims
 pub record SaysClaimed (saids : List Line) (m : Model) (claims : Claims) : Type 0 where

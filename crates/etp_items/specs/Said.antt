@@ -6,14 +6,16 @@ use Rattle.etp_proof.specs.Lemmas.{step_of}
 use Rattle.etp_items.specs.ProofLines.{Version, plain, citing, ProofLine, heading, cite, lemma, step, reference_of, reversed_of}
 use Rattle.etp_items.specs.TableLines.{TableLine, table, row}
 use Rattle.etp_items.specs.Claims.{ClaimLine, holds, fails}
+use Rattle.etp_linear.specs.Magmas.{LinearMagma}
 use Rattle.etp_items.specs.BodyLines as Lines
-use Rattle.etp_items.specs.BodyLines.{of_proofs, of_tables, of_claims, proof_line, table_line, claim_line}
+use Rattle.etp_items.specs.BodyLines.{of_proofs, of_tables, of_linear, of_claims, proof_line, table_line, linear_line, claim_line}
 use Rattle.etp_items.specs.declared.table.lines.TableLine as Tables
 use Rattle.etp_items.specs.declared.table.lines.TableLine.TheVariants.{Table, Row}
+use Rattle.etp_items.specs.declared.linear.lines.LinearLine.{LinearLine}
 use Rattle.etp_items.specs.declared.claims.lines.ClaimLine as Claims
 use Rattle.etp_items.specs.declared.claims.lines.ClaimLine.TheVariants.{Holds, Fails}
 use Rattle.etp_items.specs.declared.lines.Kind.{Kind}
-use Rattle.etp_items.specs.declared.lines.Kind.TheVariants.{OfProofs, OfTables, OfClaims}
+use Rattle.etp_items.specs.declared.lines.Kind.TheVariants.{OfProofs, OfTables, OfLinear, OfClaims}
 use Rattle.etp_items.specs.declared.lines.Line.{Line}
 use Rattle.etp_items.specs.declared.lines.Line.TheVariants as Spoken
 use Rattle.etp_items.specs.declared.proof.lines.Version as Versions
@@ -44,6 +46,10 @@ abbrev pub table_line_of : Tables.TableLine → TableLine
 table_line_of (Table size) = table size
 table_line_of (Row entries) = row entries
 
+-- what the line of a linear magma said
+abbrev pub linear_of : LinearLine → LinearMagma
+linear_of l = record { ring = l.ring; a = l.a; b = l.b; c = l.c }
+
 -- what a line of claims said
 abbrev pub claim_line_of : Claims.ClaimLine → ClaimLine
 claim_line_of (Holds numbers) = holds numbers
@@ -53,12 +59,14 @@ claim_line_of (Fails numbers) = fails numbers
 abbrev pub kind_of : Kind → Lines.Kind
 kind_of OfProofs = of_proofs
 kind_of OfTables = of_tables
+kind_of OfLinear = of_linear
 kind_of OfClaims = of_claims
 
 -- what a line said
 abbrev pub line_of : Line → Lines.Line
 line_of (Spoken.Proof line) = proof_line (proof_line_of line)
 line_of (Spoken.Table line) = table_line (table_line_of line)
+line_of (Spoken.Linear line) = linear_line (linear_of line)
 line_of (Spoken.Claim line) = claim_line (claim_line_of line)
 
 -- the line has these words of a step, and this text where its term stands

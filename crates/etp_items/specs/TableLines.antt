@@ -2,7 +2,7 @@
 use Rattle.std.specs.Prelude.{◌≡◌, ◌+◌, ◌&&◌, ℕ, List, [], ◌∷◌, codes, map, length, nat_eq, nat_le, nat_lt, if◌then◌else◌, Option, Some, None}
 use Rattle.std.specs.List.{concat}
 use Rattle.etp_words.specs.Words.{words_of}
-use Rattle.etp_words.specs.Numbers.{number_of}
+use Rattle.etp_words.specs.Numbers.{number_said}
 use Rattle.etp_items.specs.Claims.{SaysNumbers}
 
 -- what a line of a table says
@@ -16,7 +16,7 @@ pub data TableLine : Type 0 where
 pub record SaysTable (line : List ℕ) (size : ℕ) : Type 0 where
   pub word : List ℕ
   pub words : words_of line ≡ codes "table" ∷ word ∷ []
-  pub said : number_of word ≡ Some size
+  pub said : number_said word ≡ Some size
 
 abbrev pub SaysTableLine : List ℕ → TableLine → Type 0
 SaysTableLine line (table size) = SaysTable line size

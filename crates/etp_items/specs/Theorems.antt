@@ -1,6 +1,6 @@
 -- What ties lines, bodies and refusals together.
 use Rattle.std.specs.Prelude.{◌≡◌, ℕ, Bool, true, List, All}
-use Rattle.etp_theory.specs.Numbered.{IsLaw}
+use Rattle.etp_theory.specs.LawNumbers.{IsLaw}
 use Rattle.etp_theory.specs.Trees.{Equation}
 use Rattle.etp_theory.specs.Proofs.{IsValidProof}
 use Rattle.etp_io.specs.Texts.{LineText, lines_of}
@@ -12,7 +12,7 @@ use Rattle.etp_items.specs.Written.{written_body, IsWritableBody, IsShortBody, H
 use Rattle.etp_reading.specs.declared.refusal.BodyRefusal.{BodyRefusal}
 
 -- lines, bodies, refusals and the written form
-pub record BodyLaws : Type 0 where
+pub record BodyTheorems : Type 0 where
   -- a line says one thing, and a blank line nothing
   pub one_line : (line : List ℕ) (l m : Line) → Says line l → Says line m → l ≡ m
   pub blank_line : (line : List ℕ) (l : Line) → IsBlankLine line → Says line l → ⊥

@@ -1,5 +1,5 @@
 -- What a reader has read of a body.
-use Rattle.std.specs.Prelude.{◌≡◌, ◌≤◌, nat_eq, All, if◌then◌else◌, ℕ, Bool, true, false, List, [], ◌∷◌, ◌++◌, length, map, Option, Some, None}
+use Rattle.std.specs.Prelude.{◌≡◌, ◌≤◌, nat_eq, All, ℕ, Bool, true, false, List, [], ◌∷◌, ◌++◌, length, map, Option, Some, None}
 use Rattle.std.specs.List.{concat}
 use Rattle.etp_io.specs.Texts.{LineText, whole}
 use Rattle.etp_words.specs.Words.{IsBlankLine}
@@ -11,13 +11,16 @@ use Rattle.etp_items.specs.ProofLines.{Version, ProofLine, ProofPlace, headed, w
 use Rattle.etp_items.specs.TableLines.{TableLine, table, row, Rows, after_in_table}
 use Rattle.etp_items.specs.Claims.{ClaimLine, SaysClaims, ClaimPlace, holding, failing, first_claim, after_claim}
 use Rattle.etp_items.specs.BodyLines as Lines
-use Rattle.etp_items.specs.BodyLines.{Line, in_head, in_claims, table_line, claim_line, Place, opening, in_proof, proof_line, after_opening, after, is_complete, Says, numbers_of, bodies}
+use Rattle.etp_items.specs.BodyLines.{Line, Head, opened_head, next_head, is_told, in_head, in_claims, table_line, linear_line, claim_line, Place, opening, in_proof, proof_line, after_opening, after, is_complete, Says, numbers_of, bodies}
+use Rattle.etp_items.specs.Bodies as Bodies
 use Rattle.etp_items.specs.Bodies.{FileBody, proof_of, claims_of}
-use Rattle.etp_items.specs.Said.{version_of}
+use Rattle.etp_items.specs.Said.{version_of, linear_of}
 use Rattle.etp_items.specs.Reading.{proof_lines, SaysBody}
 use Rattle.etp_items.specs.declared.proof.work.ProofWork.{ProofWork}
 use Rattle.etp_items.specs.declared.table.work.TableWork.{TableWork}
 use Rattle.etp_items.specs.declared.claims.work.ClaimsWork.{ClaimsWork}
+use Rattle.etp_items.specs.declared.magma.MagmaWork.{MagmaWork}
+use Rattle.etp_items.specs.declared.magma.MagmaWork.TheVariants.{Table, Linear}
 use Rattle.etp_items.specs.declared.work.Work.{Work}
 use Rattle.etp_items.specs.declared.work.Work.TheVariants.{Opening, Proof, Model}
 use Rattle.etp_items.specs.declared.reader.Next.{Next}
@@ -58,7 +61,7 @@ pub record HasRows (w : TableWork) (rows : List (List ℕ)) : Type 0 where
 
 -- a size opens a table, and no other line
 abbrev pub OpensTable : TableLine → Option TableWork → Type 0
-OpensTable said None = after_opening (table_line said) ≡ None
+OpensTable said None = opened_head (table_line said) ≡ None
 OpensTable said (Some w) = (said ≡ table w.size) × (w.size ≤ 255) × HasRows w []
 
 -- how far a table with these rows has come
@@ -80,8 +83,8 @@ TakesInTable old said new false =
     (rows : List (List ℕ)) → HasRows old rows → after_in_table (rows_place old rows) said ≡ None
 
 -- all rows stand
-abbrev pub is_told_by : TableWork → Bool
-is_told_by w = nat_eq w.rows w.size
+abbrev pub has_all_rows : TableWork → Bool
+has_all_rows w = nat_eq w.rows w.size
 
 -- how far claims have come
 abbrev pub claim_at : Bool → ClaimPlace
@@ -108,13 +111,45 @@ TakesInClaims old said new true =
     × ((lines : List ClaimLine) → HasClaims old lines → HasClaims new (lines ++ said ∷ []))
 TakesInClaims old said new false = after_claim (claim_place old) said ≡ None
 
--- the lines of a magma and its claims have come to this place and said this
-abbrev pub HasModel : TableWork → Option ClaimsWork → Place → List Line → Type 0
-HasModel w None place saids = (rows : List (List ℕ)) × HasRows w rows × (place ≡ in_head (Lines.rows (rows_place w rows)))
+-- the lines of a magma have come this far and said this
+abbrev pub HasHead : MagmaWork → Head → List Line → Type 0
+HasHead (Table w) head saids = (rows : List (List ℕ)) × HasRows w rows × (head ≡ Lines.rows (rows_place w rows))
     × (saids ≡ map table_line (table w.size ∷ map row rows))
-HasModel w (Some c) place saids = (rows : List (List ℕ)) × (lines : List ClaimLine) × HasRows w rows × HasClaims c lines
-    × (length rows ≡ w.size) × (place ≡ in_claims (claim_place c))
-    × (saids ≡ map table_line (table w.size ∷ map row rows) ++ map claim_line lines)
+HasHead (Linear l) head saids = (head ≡ Lines.linear (linear_of l)) × (saids ≡ linear_line (linear_of l) ∷ [])
+
+-- the first line of a magma opens one, and no other line
+abbrev pub OpensHead : Line → Option MagmaWork → Type 0
+OpensHead said None = opened_head said ≡ None
+OpensHead said (Some w) = (head : Head) × (opened_head said ≡ Some head) × HasHead w head (said ∷ [])
+
+-- the work goes on with this line of the magma
+pub record TakesHeadLine (old new : MagmaWork) (said : Line) (head : Head) (saids : List Line) : Type 0 where
+  pub next : Head
+  pub stands : next_head head said ≡ Some next
+  pub has : HasHead new next (saids ++ said ∷ [])
+
+-- a line of the magma that may stand is taken, and no other
+abbrev pub TakesInHead : MagmaWork → Line → MagmaWork → Bool → Type 0
+TakesInHead old said new true =
+    (head : Head) (saids : List Line) → HasHead old head saids → TakesHeadLine old new said head saids
+TakesInHead old said new false = (head : Head) (saids : List Line) → HasHead old head saids → next_head head said ≡ None
+
+-- the magma is told
+abbrev pub is_told_by : MagmaWork → Bool
+is_told_by (Table w) = has_all_rows w
+is_told_by (Linear l) = true
+
+-- the magma that was told
+abbrev pub told_by : MagmaWork → Bodies.Model
+told_by (Table w) = Bodies.table w.size w.entries
+told_by (Linear l) = Bodies.linear (linear_of l)
+
+-- the lines of a magma and its claims have come to this place and said this
+abbrev pub HasModel : MagmaWork → Option ClaimsWork → Place → List Line → Type 0
+HasModel w None place saids = (head : Head) × HasHead w head saids × (place ≡ in_head head)
+HasModel w (Some c) place saids = (head : Head) × (told : List Line) × (lines : List ClaimLine) × HasHead w head told
+    × HasClaims c lines × (is_told head ≡ true) × (place ≡ in_claims (claim_place c))
+    × (saids ≡ told ++ map claim_line lines)
 
 -- the lines of the work have come to this place and said this
 abbrev pub HasCome : Work → Place → List Line → Type 0

@@ -1,6 +1,7 @@
 -- Bodies as they are written.
-use Rattle.std.specs.Prelude.{◌≡◌, ◌*◌, ◌<◌, ◌≤◌, ◌^◌, ℕ, zero, suc, length, take, drop, All, Bool, true, false, not, ◌||◌, List, [], ◌∷◌, ◌++◌, map, codes, decimal, if◌then◌else◌}
+use Rattle.std.specs.Prelude.{◌≡◌, ◌*◌, ◌<◌, ◌≤◌, ◌^◌, ℕ, zero, suc, unsigned_abs, length, take, drop, All, Bool, true, false, not, ◌||◌, List, [], ◌∷◌, ◌++◌, map, codes, decimal, if◌then◌else◌}
 use Rattle.std.specs.List.{list_any}
+use Rattle.std.specs.Fmt.{signed_decimal}
 use Rattle.etp_theory.specs.Trees.{bound, leaves}
 use Rattle.etp_theory.specs.Positions.{Side, to_left, to_right}
 use Rattle.etp_theory.specs.Proofs.{ProofStep, Lemma}
@@ -9,12 +10,15 @@ use Rattle.etp_reading.specs.Reading.{line_limit}
 use Rattle.etp_text.specs.Written.{written_term}
 use Rattle.etp_text.specs.Refusals.{side_limit}
 use Rattle.etp_proof.specs.Names.{IsName}
-use Rattle.etp_items.specs.Bodies.{ProofBody, Model, table, FileBody, proof, model}
+use Rattle.etp_linear.specs.Magmas.{LinearMagma}
+use Rattle.etp_linear.specs.declared.parts.Ring.{Ring}
+use Rattle.etp_linear.specs.declared.parts.Ring.TheVariants.{Integers, Modulo}
+use Rattle.etp_items.specs.Bodies.{ProofBody, Model, table, linear, FileBody, proof, model}
 use Rattle.etp_items.specs.ProofLines.{Version, plain, citing, version_word, ProofLine, heading, cite, lemma, step, cite_limit}
 use Rattle.etp_items.specs.TableLines as Tables
 use Rattle.etp_items.specs.TableLines.{TableLine, row}
 use Rattle.etp_items.specs.Claims.{ClaimLine, Claims, holds, fails}
-use Rattle.etp_items.specs.BodyLines.{Line, of_proofs, of_tables, of_claims}
+use Rattle.etp_items.specs.BodyLines.{Line, of_proofs, of_tables, of_linear, of_claims}
 use Rattle.etp_items.specs.Reading.{proof_lines}
 
 -- the number of a line, or `c` and that of a cite
@@ -93,6 +97,16 @@ abbrev pub written_table_line : TableLine → List ℕ
 written_table_line (Tables.table size) = written_numbers (codes "table") (size ∷ [])
 written_table_line (row entries) = written_numbers (codes "row") entries
 
+-- `int`, or `mod` and the modulus
+abbrev pub ring_words : Ring → List (List ℕ)
+ring_words Integers = codes "int" ∷ []
+ring_words (Modulo m) = codes "mod" ∷ decimal m ∷ []
+
+-- the line of a linear magma by its words: a negative number has `-` directly before it
+abbrev pub written_linear : LinearMagma → List ℕ
+written_linear l =
+    spaced (codes "linear" ∷ (ring_words l.ring ++ signed_decimal l.a ∷ signed_decimal l.b ∷ signed_decimal l.c ∷ []))
+
 -- and each line of claims
 abbrev pub written_claim_line : ClaimLine → List ℕ
 written_claim_line (holds numbers) = written_numbers (codes "holds") numbers
@@ -111,6 +125,7 @@ cut n numbers = pieces n (length numbers) numbers
 -- the lines of a magma as they are written
 abbrev pub model_text : Model → List ℕ
 model_text (table size entries) = written_by written_table_line (Tables.table size ∷ map row (cut size entries))
+model_text (linear l) = written_by written_linear (l ∷ [])
 
 -- the lines of claims as they are written
 abbrev pub claim_lines : Claims → List ClaimLine
@@ -133,10 +148,18 @@ IsWritableProofLine (step x) = (x.line < 2 ^ 32) × (bound x.to ≤ 64) × (leav
 abbrev pub AreNumbers : List ℕ → Type 0
 AreNumbers = All (λ n. n < 2 ^ 32)
 
+-- the modulus and the absolute values of the coefficients are below 2^32
+pub record IsWritableLinear (l : LinearMagma) : Type 0 where
+  pub modulus : (m : ℕ) → l.ring ≡ Modulo m → m < 2 ^ 32
+  pub a_small : unsigned_abs l.a < 2 ^ 32
+  pub b_small : unsigned_abs l.b < 2 ^ 32
+  pub c_small : unsigned_abs l.c < 2 ^ 32
+
 abbrev pub IsWritable : Line → Type 0
 IsWritable (of_proofs, said) = IsWritableProofLine said
 IsWritable (of_tables, Tables.table size) = size < 2 ^ 32
 IsWritable (of_tables, row entries) = AreNumbers entries
+IsWritable (of_linear, l) = IsWritableLinear l
 IsWritable (of_claims, holds numbers) = AreNumbers numbers
 IsWritable (of_claims, fails numbers) = AreNumbers numbers
 
@@ -148,11 +171,13 @@ IsShortProofLine line = length (written_proof_line line) ≤ 4096
 abbrev pub IsWritableModel : Model → Type 0
 IsWritableModel (table size entries) =
     (1 ≤ size) × (size ≤ 255) × (length entries ≡ size * size) × AreNumbers entries
+IsWritableModel (linear l) = IsWritableLinear l
 
 -- the condition of the written form: a table has a size of at least 1
 abbrev pub HasSize : FileBody → Type 0
 HasSize (proof p) = Unit {0}
 HasSize (model (table size entries) claims) = 1 ≤ size
+HasSize (model (linear l) claims) = Unit {0}
 
 -- there are laws that are to hold and laws that are to fail
 pub record AreWritableClaims (claims : Claims) : Type 0 where

@@ -1,4 +1,5 @@
 use etp_bits::Numbers;
+use etp_linear::Ring;
 use etp_proof::Proof;
 
 /// What the lines of a file say.
@@ -8,6 +9,8 @@ pub enum Body {
     Proof(Proof),
     /// An operation table that is to be a model of laws.
     Table(TableBody),
+    /// A linear magma that is to be a model of laws.
+    Linear(LinearBody),
 }
 
 /// An operation table, its entries row by row, and what it is to show.
@@ -15,6 +18,16 @@ pub enum Body {
 pub struct TableBody {
     pub size: u8,
     pub entries: Numbers,
+    pub claims: Claims,
+}
+
+/// A linear magma, x ◇ y = a x + b y + c, and what it is to show. No number is in a range yet.
+#[derive(Drop)]
+pub struct LinearBody {
+    pub ring: Ring,
+    pub a: i64,
+    pub b: i64,
+    pub c: i64,
     pub claims: Claims,
 }
 

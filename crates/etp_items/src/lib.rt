@@ -1,11 +1,13 @@
 //! The bodies of files: read line by line, and written.
 #![tactic(auto)]
 
-ghost use Rattle.etp_items.specs.Theorems.{BodyLaws};
+ghost use Rattle.etp_items.specs.Theorems.{BodyTheorems};
 
 mod body;
 mod claims;
+mod linear;
 mod lines;
+mod magma;
 mod model;
 mod numbers;
 mod proof;
@@ -15,7 +17,7 @@ mod table;
 mod work;
 mod writing;
 
-pub use body::{Body, Claims, TableBody};
+pub use body::{Body, Claims, LinearBody, TableBody};
 pub use etp_reading::BodyRefusal;
 pub use etp_words::number_word;
 pub use numbers::append_spaced;
@@ -24,8 +26,8 @@ pub use reader::BodyReader;
 pub use writing::body_text;
 
 /// Lines are one body or have one refusal.
-pub fn body_laws()
-    ensures { BodyLaws }
+pub fn body_theorems()
+    ensures { BodyTheorems }
 {}
 
 #[cfg(test)]

@@ -8,6 +8,7 @@ ghost use Rattle.etp_items.specs.BodyLines.{Says, kind_named, numbers_of};
 ghost use Rattle.etp_items.specs.Said.{kind_of, line_of};
 
 use crate::claims::lines::{ClaimLine, read_claim_line};
+use crate::linear::lines::{LinearLine, read_linear_line};
 use crate::proof::lines::{ProofLine, read_proof_line};
 use crate::table::lines::{TableLine, read_table_line};
 use etp_reading::Tally;
@@ -20,6 +21,7 @@ use std::alloc::Global;
 pub(crate) enum Line {
     Proof(ProofLine),
     Table(TableLine),
+    Linear(LinearLine),
     Claim(ClaimLine),
 }
 
@@ -30,7 +32,7 @@ impl Line {
     {
         match self {
             Line::Proof(said) => said.first_unlisted(tally),
-            Line::Table(_) => None,
+            Line::Table(_) | Line::Linear(_) => None,
             Line::Claim(said) => said.first_unlisted(tally),
         }
     }
@@ -41,6 +43,7 @@ impl Line {
 enum Kind {
     OfProofs,
     OfTables,
+    OfLinear,
     OfClaims,
 }
 
@@ -58,6 +61,9 @@ fn kind_named(word: &[u8]) -> Option<Kind>
     }
     if is(word, "table") || is(word, "row") {
         return Some(Kind::OfTables);
+    }
+    if is(word, "linear") {
+        return Some(Kind::OfLinear);
     }
     if is(word, "holds") || is(word, "fails") {
         return Some(Kind::OfClaims);
@@ -91,6 +97,10 @@ pub(crate) fn read_line(alloc: Global, line: &[u8]) -> Result<Option<Line>, NoMe
         },
         Some(Kind::OfTables) => match read_table_line(alloc, line)? {
             Some(said) => Ok(Some(Line::Table(said))),
+            None => Ok(None),
+        },
+        Some(Kind::OfLinear) => match read_linear_line(line) {
+            Some(said) => Ok(Some(Line::Linear(said))),
             None => Ok(None),
         },
         Some(Kind::OfClaims) => match read_claim_line(alloc, line)? {

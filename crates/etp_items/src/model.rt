@@ -7,18 +7,18 @@ ghost use Rattle.etp_items.specs.Said.{line_of, claim_line_of};
 ghost use Rattle.etp_items.specs.Work.{Takes, IsWhole};
 ghost use Rattle.etp_items.specs.declared.work.Work.TheVariants as Works;
 
-use crate::body::{Body, TableBody};
+use crate::body::Body;
 use crate::claims::lines::ClaimLine;
 use crate::claims::work::ClaimsWork;
 use crate::lines::Line;
-use crate::table::work::TableWork;
+use crate::magma::MagmaWork;
 use etp_term::NoMemory;
 use std::alloc::Global;
 
 /// A magma and its claims, as far as their lines have been read.
 #[derive(Drop)]
 pub(crate) struct ModelWork {
-    pub magma: TableWork,
+    pub magma: MagmaWork,
     pub claims: Option<ClaimsWork>,
 }
 
@@ -29,8 +29,7 @@ impl ModelWork {
         ensures err { OnErr result (self.new ≡ self.old) }
     {
         match said {
-            Line::Proof(_) => Ok(false),
-            Line::Table(said) => {
+            Line::Proof(_) | Line::Table(_) | Line::Linear(_) => {
                 if self.claims.is_some() {
                     return Ok(false);
                 }
@@ -64,10 +63,6 @@ impl ModelWork {
         if !claims.failing {
             return None;
         }
-        Some(Body::Table(TableBody {
-            size: magma.size,
-            entries: magma.entries,
-            claims: claims.claims,
-        }))
+        Some(magma.into_body(claims.claims))
     }
 }

@@ -45,8 +45,8 @@ impl BodyReader {
         })
     }
 
-    /// Reads the next line; None is one of more than 4096 bytes. A line that can't stand is no error
-    /// here: `finish` tells the first one.
+    /// Reads the next line; None is one of more than 4096 bytes. A line that can't stand is no
+    /// error here: `finish` tells the first one.
     pub fn push(&mut self, line: Option<&[u8]>) -> Result<(), NoMemory>
         requires { IfSome line (λ bytes. length bytes.now ≤ 4096) }
         ensures ok { OnOk result ((lines : List LineText) → HasRead self.old lines
@@ -69,7 +69,8 @@ impl BodyReader {
     /// Takes a line, where it may stand.
     fn take(&mut self, line: Option<&[u8]>) -> Result<Next, NoMemory>
         requires { IfSome line (λ bytes. length bytes.now ≤ 4096) }
-        ensures next { IfOk result (GoesNext self.old.tally.count self.old.work self.new.work (given_text line.entry)) }
+        ensures next { IfOk result (GoesNext self.old.tally.count self.old.work self.new.work
+            (given_text line.entry)) }
         ensures tally { OnOk result (self.new.tally ≡ self.old.tally) }
         ensures err { OnErr result (self.new ≡ self.old) }
     {

@@ -6,7 +6,7 @@ ghost use Rattle.etp_items.specs.Written.{HasSize};
 use crate::{Body, BodyReader, BodyRefusal, body_text, lemma_line, step_line};
 use etp_proof::{Proof, Step};
 use etp_term::{Position, Side};
-use etp_text::write_term;
+use etp_text::{Text, write_term};
 use std::alloc::{AllocError, Global};
 
 // Lines, then so many lines without a byte, closed or not; a line of None is too long.
@@ -154,19 +154,18 @@ fn has_size(body: &Body) -> bool
     match body {
         Body::Proof(_) => true,
         Body::Table(table) => table.size >= 1,
+        Body::Linear(_) => true,
     }
 }
 
-fn written(alloc: Global, lines: &[Option<&str>], text: &str) -> Result<bool, AllocError> {
+fn written(alloc: Global, lines: &[Option<&str>], text: &[u8]) -> Result<bool, AllocError> {
     let case = Case {
         lines,
         blanks: 0,
         closed: true,
     };
     match read(alloc, &case)? {
-        Ok(body) if has_size(&body) => {
-            Ok(body_text(alloc, &body)?.as_slice() == text.as_bytes())
-        }
+        Ok(body) if has_size(&body) => { Ok(body_text(alloc, &body)?.as_slice() == text) }
         _ => Ok(false),
     }
 }
@@ -183,7 +182,7 @@ fn a_table_is_written_in_one_form(rt: HostRuntime) {
         Some("fails 43"),
     ];
     let text = "table 2\nrow 0 0\nrow 1 1\nholds 4 1 4\nfails 43\n";
-    assert!(rt; written(rt.alloc(), &lines, text).expect(&rt, "memory"));
+    assert!(rt; written(rt.alloc(), &lines, text.as_bytes()).expect(&rt, "memory"));
 }
 
 #[test]
@@ -215,6 +214,62 @@ fn lines_of_a_table_stand_in_their_order(rt: HostRuntime) {
 }
 
 #[test]
+fn a_linear_magma_is_written_in_one_form(rt: HostRuntime) {
+    let cases = [
+        (" linear  int\t1 -1 0", "linear int 1 -1 0\n"),
+        ("linear int -0 007 -0010", "linear int 0 7 -10\n"),
+        ("linear mod 07 3 -2 0", "linear mod 7 3 -2 0\n"),
+        ("linear mod 0 0 0 0", "linear mod 0 0 0 0\n"),
+        (
+            "linear mod 4294967295 4294967295 -4294967295 1",
+            "linear mod 4294967295 4294967295 -4294967295 1\n",
+        ),
+    ];
+    for (line, text) in cases {
+        let lines = [Some(line), Some("holds 4"), Some("fails 43")];
+        let mut whole = Text::empty(rt.alloc());
+        whole.append(text.as_bytes()).expect(&rt, "memory");
+        whole.append(b"holds 4\nfails 43\n").expect(&rt, "memory");
+        assert!(rt; written(rt.alloc(), &lines, whole.as_slice()).expect(&rt, "memory"));
+    }
+}
+
+#[test]
+fn one_line_tells_a_linear_magma(rt: HostRuntime) {
+    let linear = Some("linear int 1 -1 0");
+    let holds = Some("holds 4");
+    let fails = Some("fails 43");
+    let cases: [(&[Option<&str>], Option<BodyRefusal>); 21] = [
+        (&[linear, holds, fails], None),
+        (&[Some("linear mod 7 3 -2 0"), holds, fails], None),
+        (&[Some("linear mod 0 0 0 0"), holds, fails], None),
+        (&[Some("linear int 1000001 0 0"), holds, fails], None),
+        (&[Some("linear")], bad(1)),
+        (&[Some("linear int 1 1")], bad(1)),
+        (&[Some("linear int 1 1 1 1")], bad(1)),
+        (&[Some("linear int --1 0 0")], bad(1)),
+        (&[Some("linear int - 1 0 0")], bad(1)),
+        (&[Some("linear int 1 - 0")], bad(1)),
+        (&[Some("linear int +1 0 0")], bad(1)),
+        (&[Some("linear int 0 0 4294967296")], bad(1)),
+        (&[Some("linear mod -7 1 1 1")], bad(1)),
+        (&[Some("linear mod 1 1 1")], bad(1)),
+        (&[Some("linear 1 1 1")], bad(1)),
+        (&[holds, linear], bad(1)),
+        (&[linear, linear], bad(2)),
+        (&[linear, fails], bad(2)),
+        (&[linear, Some("row 0")], bad(2)),
+        (&[linear, holds, linear], bad(3)),
+        (&[Some("table 1"), linear], bad(2)),
+    ];
+    for (lines, expected) in cases {
+        assert!(rt; refused(rt.alloc(), lines).expect(&rt, "memory") == expected);
+    }
+    let unfinished = Some(BodyRefusal::Unfinished { line: 3 });
+    assert!(rt; refused(rt.alloc(), &[linear, holds]).expect(&rt, "memory") == unfinished);
+}
+
+#[test]
 fn bodies_are_written_in_one_form(rt: HostRuntime) {
     let plain = written(
         rt.alloc(),
@@ -225,7 +280,7 @@ fn bodies_are_written_in_one_form(rt: HostRuntime) {
             Some("step 00 < . ((x * y)) * z"),
             Some("step 1 > lr v6"),
         ],
-        "proof 4 3\nlemma x ◇ y\nstep 0 < . (x ◇ y) ◇ z\nstep 1 > lr v6\n",
+        "proof 4 3\nlemma x ◇ y\nstep 0 < . (x ◇ y) ◇ z\nstep 1 > lr v6\n".as_bytes(),
     );
     assert!(rt; plain.expect(&rt, "memory"));
     let citing = written(
@@ -236,7 +291,7 @@ fn bodies_are_written_in_one_form(rt: HostRuntime) {
             Some("lemma x"),
             Some("step c01 > r x"),
         ],
-        "proof2 4 3\ncite a\nlemma x\nstep c1 > r x\n",
+        "proof2 4 3\ncite a\nlemma x\nstep c1 > r x\n".as_bytes(),
     );
     assert!(rt; citing.expect(&rt, "memory"));
 }
@@ -254,8 +309,8 @@ fn lines_of_a_lemma_and_of_a_step_are_read(rt: HostRuntime) {
     }
 }
 
-// What is to stand in a step: its lemma and its place there, from 0 on, the line that it names, its direction,
-// its position's letters and its term.
+// What is to stand in a step: its lemma and its place there, from 0 on, the line that it names, its
+// direction, its position's letters and its term.
 #[derive(Clone, Copy)]
 struct Expected<'a> {
     lemma: u32,

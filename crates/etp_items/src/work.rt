@@ -2,17 +2,16 @@
 ghost use Rattle.std.specs.Prelude.{◌≡◌, IfOk, OnErr};
 ghost use Rattle.std.specs.Option.{option_map};
 ghost use Rattle.etp_items.specs.Bodies.{body_of};
-ghost use Rattle.etp_items.specs.BodyLines.{proof_line, table_line};
-ghost use Rattle.etp_items.specs.Said.{line_of, proof_line_of, table_line_of};
+ghost use Rattle.etp_items.specs.BodyLines.{proof_line, BeginsNoProof};
+ghost use Rattle.etp_items.specs.Said.{line_of, proof_line_of};
 ghost use Rattle.etp_items.specs.Work.{Takes, IsWhole};
 
 use crate::body::Body;
 use crate::lines::Line;
+use crate::magma::MagmaWork;
 use crate::model::ModelWork;
 use crate::proof::lines::ProofLine;
 use crate::proof::work::ProofWork;
-use crate::table::lines::TableLine;
-use crate::table::work::TableWork;
 use etp_term::NoMemory;
 use std::alloc::Global;
 
@@ -35,7 +34,7 @@ impl Work {
             Work::Opening => Ok(self.open(alloc, said)),
             Work::Proof(work) => match said {
                 Line::Proof(said) => work.take(alloc, said),
-                Line::Table(_) | Line::Claim(_) => Ok(false),
+                Line::Table(_) | Line::Linear(_) | Line::Claim(_) => Ok(false),
             },
             Work::Model(work) => work.take(alloc, said),
         }
@@ -48,7 +47,7 @@ impl Work {
     {
         match said {
             Line::Proof(said) => self.open_proof(alloc, said),
-            Line::Table(said) => self.open_table(alloc, said),
+            Line::Table(_) | Line::Linear(_) => self.open_magma(alloc, said),
             Line::Claim(_) => false,
         }
     }
@@ -66,11 +65,12 @@ impl Work {
         }
     }
 
-    fn open_table(&mut self, alloc: Global, said: TableLine) -> bool
-        requires { self.old ≡ Work.Opening }
-        ensures { Takes self.old (table_line (table_line_of said)) self.new result }
+    fn open_magma(&mut self, alloc: Global, said: Line) -> bool
+        requires opening { self.old ≡ Work.Opening }
+        requires magma { BeginsNoProof (line_of said) }
+        ensures { Takes self.old (line_of said) self.new result }
     {
-        match TableWork::open(alloc, said) {
+        match MagmaWork::open(alloc, said) {
             Some(magma) => {
                 *self = Work::Model(ModelWork {
                     magma,

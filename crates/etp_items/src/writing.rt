@@ -1,11 +1,11 @@
 // The text of a body.
 ghost use Rattle.std.specs.Prelude.{◌≡◌, ◌≤◌, IfOk};
-ghost use Rattle.etp_items.specs.Bodies.{body_of};
-ghost use Rattle.etp_items.specs.Bodies.{model, table, claims_of};
+ghost use Rattle.etp_items.specs.Bodies.{body_of, model, table, linear, linear_in, claims_of};
 ghost use Rattle.etp_items.specs.Written.{written_body, HasSize};
 
-use crate::body::{Body, TableBody};
+use crate::body::{Body, LinearBody, TableBody};
 use crate::claims::writing::append_claims;
+use crate::linear::writing::append_linear;
 use crate::proof::writing::proof_text;
 use crate::table::writing::append_table;
 use etp_term::NoMemory;
@@ -21,6 +21,7 @@ pub fn body_text(alloc: Global, body: &Body) -> Result<Text, NoMemory>
     match body {
         Body::Proof(proof) => proof_text(alloc, proof),
         Body::Table(table) => table_text(alloc, table),
+        Body::Linear(linear) => linear_text(alloc, linear),
     }
 }
 
@@ -31,6 +32,16 @@ fn table_text(alloc: Global, body: &TableBody) -> Result<Text, NoMemory>
 {
     let mut text = Text::empty(alloc);
     append_table(&mut text, body.size, body.entries.as_slice())?;
+    append_claims(&mut text, &body.claims)?;
+    Ok(text)
+}
+
+fn linear_text(alloc: Global, body: &LinearBody) -> Result<Text, NoMemory>
+    ensures { IfOk result (λ text. text ≡ written_body
+        (model (linear (linear_in body.now)) (claims_of body.now.claims))) }
+{
+    let mut text = Text::empty(alloc);
+    append_linear(&mut text, body)?;
     append_claims(&mut text, &body.claims)?;
     Ok(text)
 }

@@ -4,8 +4,8 @@ ghost use Rattle.std.specs.Option.{option_map};
 ghost use Rattle.etp_theory.specs.Trees.{Tree};
 ghost use Rattle.etp_theory.specs.Proofs.{ProofStep};
 ghost use Rattle.etp_term.specs.Terms.{tree_of};
-ghost use Rattle.etp_term.specs.Sides.{position_of};
-ghost use Rattle.etp_term.specs.Sides as Program;
+ghost use Rattle.etp_term.specs.Positions.{position_of};
+ghost use Rattle.etp_term.specs.Positions as Program;
 ghost use Rattle.etp_proof.specs.Lemmas.{step_of};
 ghost use Rattle.etp_reading.specs.Tallies.{HasFirst};
 ghost use Rattle.etp_items.specs.ProofLines as Lines;
@@ -63,7 +63,8 @@ struct Reference {
 }
 
 fn version_named(word: &[u8]) -> Option<Version>
-    ensures { MatchOption result ((v : Lines.Version) → word.now ≡ version_word v → ⊥) (λ v. word.now ≡ version_word (version_of v)) }
+    ensures { MatchOption result ((v : Lines.Version) → word.now ≡ version_word v → ⊥)
+        (λ v. word.now ≡ version_word (version_of v)) }
 {
     if is(word, "proof") {
         return Some(Version::Plain);
@@ -76,7 +77,8 @@ fn version_named(word: &[u8]) -> Option<Version>
 
 /// The line as the first one of a proof.
 fn heading_line(line: &[u8]) -> Option<Heading>
-    ensures { MatchOption result ((v : Lines.Version) (e f : ℕ) → SaysHeading line.now v e f → ⊥) (λ h. SaysHeading line.now (version_of h.version) h.hypothesis h.goal) }
+    ensures { MatchOption result ((v : Lines.Version) (e f : ℕ) → SaysHeading line.now v e f → ⊥)
+        (λ h. SaysHeading line.now (version_of h.version) h.hypothesis h.goal) }
 {
     let (word, rest) = next_word(line)?;
     let version = version_named(word)?;
@@ -96,7 +98,8 @@ fn heading_line(line: &[u8]) -> Option<Heading>
 
 /// The name that the line cites.
 fn cite_line(alloc: Global, line: &[u8]) -> Result<Option<Label>, NoMemory>
-    ensures { IfOk result (λ o. MatchOption o ((name : List ℕ) → SaysCite line.now name → ⊥) (SaysCite line.now)) }
+    ensures { IfOk result (λ o. MatchOption o ((name : List ℕ) → SaysCite line.now name → ⊥)
+        (SaysCite line.now)) }
 {
     let Some(rest) = behind(line, "cite") else {
         return Ok(None);
@@ -110,11 +113,12 @@ fn cite_line(alloc: Global, line: &[u8]) -> Result<Option<Label>, NoMemory>
     Label::of(alloc, name)
 }
 
-/// The start of the lemma that a line begins: the word `lemma` and a term of at most 255 leaves. None
-/// where the line is no such line.
+/// The start of the lemma that a line begins: the word `lemma` and a term of at most 255 leaves.
+/// None where the line is no such line.
 pub fn lemma_line(alloc: Global, line: &[u8]) -> Result<Option<Term>, NoMemory>
     requires { length line.now ≤ 4096 }
-    ensures { IfOk result (λ o. MatchOption o ((t : Tree) → SaysLemma line.now t → ⊥) (λ t. SaysLemma line.now (tree_of t))) }
+    ensures { IfOk result (λ o. MatchOption o ((t : Tree) → SaysLemma line.now t → ⊥)
+        (λ t. SaysLemma line.now (tree_of t))) }
 {
     let Some(rest) = behind(line, "lemma") else {
         return Ok(None);
@@ -197,7 +201,8 @@ struct StepWords<'a> {
 }
 
 fn step_words(line: &[u8]) -> Option<StepWords<'_>>
-    ensures words { MatchOption result ((x : ProofStep) → SaysStep line.now x → ⊥) (λ w. HasStepWords line.now w) }
+    ensures words { MatchOption result ((x : ProofStep) → SaysStep line.now x → ⊥)
+        (λ w. HasStepWords line.now w) }
     ensures position { IfSome result (λ w. length w.position.now ≤ length line.now) }
     ensures term { IfSome result (λ w. length w.term.now ≤ length line.now) }
 {
@@ -218,7 +223,8 @@ fn step_words(line: &[u8]) -> Option<StepWords<'_>>
 /// The step that the line says, by a line of the proof or by a cite.
 fn any_step_line(alloc: Global, line: &[u8]) -> Result<Option<Step>, NoMemory>
     requires { length line.now ≤ 4096 }
-    ensures { IfOk result (λ o. MatchOption o ((x : ProofStep) → SaysStep line.now x → ⊥) (λ x. SaysStep line.now (step_of x))) }
+    ensures { IfOk result (λ o. MatchOption o ((x : ProofStep) → SaysStep line.now x → ⊥)
+        (λ x. SaysStep line.now (step_of x))) }
 {
     let Some(words) = step_words(line) else {
         return Ok(None);
@@ -239,11 +245,13 @@ fn any_step_line(alloc: Global, line: &[u8]) -> Result<Option<Step>, NoMemory>
 }
 
 /// The step that a line says: the word `step`, the number of a line of the proof, `>` or `<`, a
-/// position, and a term of at most 255 leaves. None where the line is no such line; a step by a cite is
-/// none.
+/// position, and a term of at most 255 leaves. None where the line is no such line; a step by a
+/// cite is none.
 pub fn step_line(alloc: Global, line: &[u8]) -> Result<Option<Step>, NoMemory>
     requires { length line.now ≤ 4096 }
-    ensures step { IfOk result (λ o. MatchOption o ((x : ProofStep) → SaysStep line.now x → x.cited ≡ false → ⊥) (λ x. SaysStep line.now (step_of x))) }
+    ensures step { IfOk result (λ o.
+        MatchOption o ((x : ProofStep) → SaysStep line.now x → x.cited ≡ false → ⊥)
+        (λ x. SaysStep line.now (step_of x))) }
     ensures plain { IfOk result (λ o. IfSome o (λ x. x.cited ≡ false)) }
 {
     let Some(step) = any_step_line(alloc, line)? else {

@@ -56,7 +56,8 @@ impl ProofWork {
     }
 
     fn take_cite(&mut self, name: Label) -> Result<bool, NoMemory>
-        ensures ok { IfOk result (TakesInProof self.old (proof_line_of (ProofLine.Cite name)) self.new) }
+        ensures ok { IfOk result (TakesInProof self.old
+            (proof_line_of (ProofLine.Cite name)) self.new) }
         ensures err { OnErr result (self.new ≡ self.old) }
     {
         if self.version != Version::Citing || self.proof.lemmas.len() > 0 {
@@ -70,7 +71,8 @@ impl ProofWork {
     }
 
     fn take_lemma(&mut self, alloc: Global, start: Term) -> Result<bool, NoMemory>
-        ensures ok { IfOk result (TakesInProof self.old (proof_line_of (ProofLine.Lemma start)) self.new) }
+        ensures ok { IfOk result (TakesInProof self.old
+            (proof_line_of (ProofLine.Lemma start)) self.new) }
         ensures err { OnErr result (self.new ≡ self.old) }
     {
         if self.proof.lemmas.len() == u32::MAX {
@@ -84,7 +86,8 @@ impl ProofWork {
     }
 
     fn take_step(&mut self, step: Step) -> Result<bool, NoMemory>
-        ensures ok { IfOk result (TakesInProof self.old (proof_line_of (ProofLine.Step step)) self.new) }
+        ensures ok { IfOk result (TakesInProof self.old
+            (proof_line_of (ProofLine.Step step)) self.new) }
         ensures err { OnErr result (self.new ≡ self.old) }
     {
         if self.proof.lemmas.len() == 0 {

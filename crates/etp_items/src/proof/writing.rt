@@ -1,8 +1,8 @@
 // The text of a proof.
 ghost use Rattle.std.specs.Prelude.{◌≡◌, ◌++◌, ◌∷◌, [], codes, map, OnOk, IfOk};
 ghost use Rattle.std.specs.List.{list_any};
-ghost use Rattle.etp_term.specs.Sides as Sides;
-ghost use Rattle.etp_term.specs.Sides.{position_of};
+ghost use Rattle.etp_term.specs.Positions as Positions;
+ghost use Rattle.etp_term.specs.Positions.{position_of};
 ghost use Rattle.etp_proof.specs.Lemmas.{step_of, lemma_of};
 ghost use Rattle.etp_items.specs.Bodies as Bodies;
 ghost use Rattle.etp_items.specs.Bodies.{proof_of};
@@ -66,7 +66,8 @@ fn version(proof: &Proof) -> Version
 }
 
 fn append_heading(text: &mut Text, proof: &Proof) -> Result<(), NoMemory>
-    ensures { OnOk result (text.new ≡ text.old ++ written_proof_lines (heading (version_for (proof_of proof.now)) proof.now.hypothesis proof.now.goal ∷ [])) }
+    ensures { OnOk result (text.new ≡ text.old ++ written_proof_lines
+        (heading (version_for (proof_of proof.now)) proof.now.hypothesis proof.now.goal ∷ [])) }
 {
     text.append(match version(proof) {
         Version::Plain => b"proof",
@@ -97,7 +98,8 @@ fn append_cite(text: &mut Text, name: &Label) -> Result<(), NoMemory>
 }
 
 fn append_lemmas(text: &mut Text, lemmas: &[Lemma]) -> Result<(), NoMemory>
-    ensures { OnOk result (text.new ≡ text.old ++ written_proof_lines (lemma_lines (map lemma_of lemmas.now))) }
+    ensures { OnOk result (text.new ≡ text.old
+        ++ written_proof_lines (lemma_lines (map lemma_of lemmas.now))) }
 {
     for lemma in lemmas {
         append_lemma(text, lemma)?;
@@ -106,14 +108,16 @@ fn append_lemmas(text: &mut Text, lemmas: &[Lemma]) -> Result<(), NoMemory>
 }
 
 fn append_lemma(text: &mut Text, lemma: &Lemma) -> Result<(), NoMemory>
-    ensures { OnOk result (text.new ≡ text.old ++ written_proof_lines (lemma_lines (lemma_of lemma.now ∷ []))) }
+    ensures { OnOk result (text.new ≡ text.old
+        ++ written_proof_lines (lemma_lines (lemma_of lemma.now ∷ []))) }
 {
     append_start(text, lemma)?;
     append_steps(text, lemma.steps.as_slice())
 }
 
 fn append_start(text: &mut Text, lemma: &Lemma) -> Result<(), NoMemory>
-    ensures { OnOk result (text.new ≡ text.old ++ written_proof_lines (Lines.lemma (lemma_of lemma.now).start ∷ [])) }
+    ensures { OnOk result (text.new ≡ text.old
+        ++ written_proof_lines (Lines.lemma (lemma_of lemma.now).start ∷ [])) }
 {
     text.append(b"lemma ")?;
     text.append_term(&lemma.start)?;
@@ -121,7 +125,8 @@ fn append_start(text: &mut Text, lemma: &Lemma) -> Result<(), NoMemory>
 }
 
 fn append_steps(text: &mut Text, steps: &[Step]) -> Result<(), NoMemory>
-    ensures { OnOk result (text.new ≡ text.old ++ written_proof_lines (map Lines.step (map step_of steps.now))) }
+    ensures { OnOk result (text.new ≡ text.old
+        ++ written_proof_lines (map Lines.step (map step_of steps.now))) }
 {
     for step in steps {
         append_step(text, step)?;
@@ -130,7 +135,8 @@ fn append_steps(text: &mut Text, steps: &[Step]) -> Result<(), NoMemory>
 }
 
 fn append_step(text: &mut Text, step: &Step) -> Result<(), NoMemory>
-    ensures { OnOk result (text.new ≡ text.old ++ written_proof_lines (Lines.step (step_of step.now) ∷ [])) }
+    ensures { OnOk result (text.new ≡ text.old
+        ++ written_proof_lines (Lines.step (step_of step.now) ∷ [])) }
 {
     append_step_words(text, step)?;
     text.append_term(&step.to)?;
@@ -139,7 +145,10 @@ fn append_step(text: &mut Text, step: &Step) -> Result<(), NoMemory>
 
 /// Appends what stands before the term of a step.
 fn append_step_words(text: &mut Text, step: &Step) -> Result<(), NoMemory>
-    ensures { OnOk result (text.new ≡ text.old ++ spaced (codes "step" ∷ reference_word (step_of step.now) ∷ direction_word step.now.reversed ∷ position_word (position_of step.now.position) ∷ [] ∷ [])) }
+    ensures { OnOk result (text.new ≡ text.old
+        ++ spaced (codes "step" ∷ reference_word (step_of step.now)
+        ∷ direction_word step.now.reversed
+        ∷ position_word (position_of step.now.position) ∷ [] ∷ [])) }
 {
     text.append(b"step ")?;
     append_reference(text, step)?;
@@ -183,7 +192,7 @@ fn append_sides(text: &mut Text, sides: &[Side]) -> Result<(), NoMemory>
 }
 
 fn letter(side: Side) -> &'static [u8]
-    ensures { result.now ≡ side_letter (Sides.side_of side) ∷ [] }
+    ensures { result.now ≡ side_letter (Positions.side_of side) ∷ [] }
 {
     match side {
         Side::L => b"l",

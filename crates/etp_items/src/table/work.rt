@@ -1,7 +1,8 @@
 // The table that lines make.
 ghost use Rattle.std.specs.Prelude.{◌≡◌, IfOk, OnErr};
 ghost use Rattle.etp_items.specs.Said.{table_line_of};
-ghost use Rattle.etp_items.specs.Work.{OpensTable, TakesInTable, is_told_by};
+ghost use Rattle.etp_items.specs.Work as Works;
+ghost use Rattle.etp_items.specs.Work.{OpensTable, TakesInTable};
 
 use crate::table::lines::TableLine;
 use etp_bits::Numbers;
@@ -48,8 +49,8 @@ impl TableWork {
     }
 
     /// Whether all rows stand.
-    pub(crate) fn is_told(&self) -> bool
-        ensures { result ≡ is_told_by self.now }
+    pub(crate) fn has_all_rows(&self) -> bool
+        ensures { result ≡ Works.has_all_rows self.now }
     {
         self.rows == self.size
     }

@@ -1,11 +1,23 @@
-use Rattle.std.proofs.Common.{sym, ◌∙◌}
-use Rattle.etp_items.specs.Said.{table_line_of, claim_line_of}
-use Rattle.etp_items.proofs.ModelLemmas.{table_takes_at, claims_take_ok}
+use Rattle.std.proofs.Common.{◌≡◌, ◌⊎◌, inl, inr, sym, subst, ◌∙◌}
+use Rattle.etp_items.specs.Said.{line_of, claim_line_of}
+use Rattle.etp_items.specs.declared.lines.Line.{Line}
+use Rattle.etp_items.specs.declared.lines.Line.TheVariants as Spoken
+use Rattle.etp_items.specs.declared.linear.lines.LinearLine.{LinearLine}
+use Rattle.etp_items.specs.declared.proof.lines.ProofLine.{ProofLine}
+use Rattle.etp_items.specs.declared.table.lines.TableLine.{TableLine}
+use Rattle.etp_items.proofs.ModelLemmas.{IsNoClaim, head_takes_at, head_kept, claims_take_ok}
 use Rattle.etp_items.proofs.model.ModelWork.take.Goals as goal
 
-pub returns-in-Table-clause-ok : goal.returns-in-Table-clause-ok
-returns-in-Table-clause-ok c =
-    rw c.in-Table.is (table_takes_at c.args.self.now c.take.new.self (table_line_of c.in-Table.said) c.take.result (sym c.is_some.ensures ∙ c.if-is_some.false) c.take.ensures.ok)
+no_claim : (said : Line) → ((l : ProofLine) × (said ≡ Spoken.Proof l)) ⊎ ((l : TableLine) × (said ≡ Spoken.Table l)) ⊎ ((l : LinearLine) × (said ≡ Spoken.Linear l)) → IsNoClaim (line_of said)
+no_claim said (inl (l, e)) = subst (λ (z : Line). IsNoClaim (line_of z)) (sym e) tt
+no_claim said (inr (inl (l, e))) = subst (λ (z : Line). IsNoClaim (line_of z)) (sym e) tt
+no_claim said (inr (inr (l, e))) = subst (λ (z : Line). IsNoClaim (line_of z)) (sym e) tt
+
+pub returns-else-is_some : goal.returns-else-is_some
+returns-else-is_some c = record {
+  ok = head_takes_at c.args.self.now c.take.new.self (line_of c.args.said) c.take.result (no_claim c.args.said c.in-Proof.is) (sym c.is_some.ensures ∙ c.if-is_some.false) c.take.ensures.ok;
+  err = head_kept c.args.self.now c.take.new.self c.take.result c.take.ensures.err;
+}
 
 pub returns-in-Some-clause-ok : goal.returns-in-Some-clause-ok
 returns-in-Some-clause-ok c =

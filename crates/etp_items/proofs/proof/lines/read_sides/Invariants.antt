@@ -1,5 +1,5 @@
 use Rattle.std.proofs.Common.{◌≡◌, ◌≤◌, length, drop}
-use Rattle.etp_term.specs.Sides.{position_of}
+use Rattle.etp_term.specs.Positions.{position_of}
 use Rattle.etp_items.specs.ProofLines.{sides_of}
 use Rattle.etp_items.proofs.SideLemmas.{sides_behind}
 use Rattle.etp_items.proofs.proof.lines.read_sides.Given as goal

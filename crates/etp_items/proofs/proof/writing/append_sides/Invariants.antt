@@ -1,5 +1,5 @@
 use Rattle.std.proofs.Common.{◌≡◌, ◌++◌, map, take}
-use Rattle.etp_term.specs.Sides.{position_of}
+use Rattle.etp_term.specs.Positions.{position_of}
 use Rattle.etp_items.specs.Written.{side_letter}
 use Rattle.etp_items.proofs.proof.writing.append_sides.Given as goal
 

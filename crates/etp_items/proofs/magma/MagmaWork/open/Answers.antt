@@ -1,0 +1,14 @@
+use Rattle.std.proofs.Common.{refl}
+use Rattle.etp_items.specs.BodyLines as Lines
+use Rattle.etp_items.specs.Said.{linear_of, table_line_of}
+use Rattle.etp_items.proofs.ModelLemmas.{table_opens}
+use Rattle.etp_items.proofs.magma.MagmaWork.open.Goals as goal
+
+pub returns-in_err-work-in-Table : goal.returns-in_err-work-in-Table
+returns-in_err-work-in-Table c = rw (c.from_residual.ensures, c.in-Table.is) (rw c.in_err-work-in-Table.was at c.open.ensures)
+
+pub returns-in-Table : goal.returns-in-Table
+returns-in-Table c = rw c.in-Table.is (table_opens (table_line_of c.in-Table.said) c.in_ok-work-in-Table.work (rw c.in_ok-work-in-Table.was at c.open.ensures))
+
+pub returns-in-Linear : goal.returns-in-Linear
+returns-in-Linear c = rw c.in-Linear.is (Lines.linear (linear_of c.in-Linear.said), refl, (refl, refl))
