@@ -7,15 +7,16 @@ use Rattle.std.proofs.lemmas.Option.{slice_get-map, slice_get_within, get_or_fro
 use Rattle.etp_theory.specs.Trees.{Equation}
 use Rattle.etp_theory.specs.Derivations.{Derives}
 use Rattle.etp_theory.specs.Proofs.{AllDerived}
-use Rattle.etp_theory.specs.Numbered.{IsLaw, law_numbered}
+use Rattle.etp_theory.specs.LawNumbers.{IsLaw, law_numbered}
 use Rattle.etp_theory.specs.RightFacts.{Implies}
-use Rattle.etp_theory.proofs.Theorems.{proof_laws}
-use Rattle.etp_laws.specs.Listing.{trivial}
+use Rattle.etp_theory.proofs.Theorems.{proof_theorems}
+use Rattle.etp_laws.specs.Listing.{reflexive_law}
 use Rattle.etp_laws.proofs.Entries.{entry_zero}
 use Rattle.etp_replay.specs.Validity.{law_at}
 use Rattle.etp_replay.proofs.Goals.{listed_law}
 use Rattle.etp_table.proofs.Tables as Tables
-use Rattle.etp_items.specs.Bodies.{FileBody, table, proof, model}
+use Rattle.etp_linear.proofs.Judged as Linears
+use Rattle.etp_items.specs.Bodies.{FileBody, table, linear, proof, model}
 use Rattle.etp_check.specs.Checks.{fact_said, IsListedBody, HasContent, AreCitedNumbers, IsRightBody, IsValidBody, SaysRight, HasLaws}
 
 same_some : (p q : Equation) → Some p ≡ Some q → p ≡ q
@@ -28,7 +29,7 @@ module _ (laws : List Equation) (hypothesis : ℕ) (cited : List ℕ) (listed : 
   one_derived n there =
       let i = right n there in
       let from = same_some i.hypothesis (law_at laws hypothesis) (sym i.hypothesis_listed ∙ listed_law laws hypothesis listed) in
-      let to : i.goal ≡ law_at laws n = sym (ap (λ o. unwrap_or o trivial) (i.goal_listed)) in
+      let to : i.goal ≡ law_at laws n = sym (ap (λ o. unwrap_or o reflexive_law) (i.goal_listed)) in
       subst (λ (p : Equation). Derives p (law_at laws n)) from (subst (Derives i.hypothesis) to i.derived)
 
   all_derived : AllDerived (law_at laws hypothesis) (map (law_at laws) cited)
@@ -49,10 +50,11 @@ right_fact laws (proof p) cited valid implied = record {
   goal_listed = listed_law laws p.goal valid.listed.goal_listed;
   derived =
       let right = λ (n : ℕ) (there : Contains cited n). All-contains (Implies laws p.hypothesis) cited n implied there in
-      proof_laws.proved (law_at laws p.hypothesis) (law_at laws p.goal) (map (law_at laws) cited) p.lemmas (all_derived laws p.hypothesis cited valid.listed.hypothesis_listed right) valid.right;
+      proof_theorems.proved (law_at laws p.hypothesis) (law_at laws p.goal) (map (law_at laws) cited) p.lemmas (all_derived laws p.hypothesis cited valid.listed.hypothesis_listed right) valid.right;
 }
 right_fact laws (model (table size entries) claims) cited valid implied =
     Tables.right_fact laws (record { size = size; entries = entries }) claims.holds claims.fails valid.right.0 valid.right.1
+right_fact laws (model (linear l) claims) cited valid implied = Linears.right_fact laws l valid.right.0 claims.holds claims.fails valid.right.1
 
 pub says_right : {T E : Type 0} (r : Result T E) (laws : List Equation) (body : FileBody) (cited : List ℕ) → IsListedBody laws body → HasContent body → AreCitedNumbers laws body cited → OnOk r (IsRightBody laws body cited) → OnOk r (SaysRight laws body cited)
 says_right r laws body cited listed content numbers right =

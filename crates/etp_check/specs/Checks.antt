@@ -4,12 +4,14 @@ use Rattle.etp_theory.specs.Trees.{Equation}
 use Rattle.etp_theory.specs.Proofs.{IsValidProof}
 use Rattle.etp_theory.specs.Reach.{Fact, implies, refutes}
 use Rattle.etp_theory.specs.RightFacts.{Implies, IsRightFact}
-use Rattle.etp_theory.specs.Numbered.{IsLaw, law_numbered}
+use Rattle.etp_theory.specs.LawNumbers.{IsLaw, law_numbered}
 use Rattle.etp_replay.specs.Validity.{law_at}
 use Rattle.etp_table.specs.Tables.{IsTable}
 use Rattle.etp_table.specs.Judgements.{IsJudged}
+use Rattle.etp_linear.specs.Magmas.{IsLinearMagma}
+use Rattle.etp_linear.specs.Judgements as Linears
 use Rattle.etp_items.specs.Claims.{Claims}
-use Rattle.etp_items.specs.Bodies.{FileBody, ProofBody, Model, table, proof, model}
+use Rattle.etp_items.specs.Bodies.{FileBody, ProofBody, Model, table, linear, proof, model}
 
 -- a proof says that its hypothesis implies its goal, a magma that no law that holds implies one that fails
 abbrev pub fact_said : FileBody → Fact
@@ -33,6 +35,7 @@ IsListedBody laws (model m claims) = HasListedClaims laws claims
 -- a table has size times size entries
 abbrev pub HasModelContent : Model → Type 0
 HasModelContent (table size entries) = (1 ≤ size) × (length entries ≡ size * size)
+HasModelContent (linear l) = Unit {0}
 
 -- a proof has a lemma
 abbrev pub HasContent : FileBody → Type 0
@@ -59,12 +62,13 @@ pub record AreCitedNumbers (laws : List Equation) (body : FileBody) (cited : Lis
   pub as_many : length cited ≡ length (cites_of body)
   pub cited_listed : All (λ n. IsSome (law_numbered laws n)) cited
 
--- the magma is one, the laws that are to hold do so, with few enough assignments to look at all, and
--- those that are to fail do so at one that is looked at
+-- the magma is one, the laws that are to hold do so, and those that are to fail don't; in a table there are few
+-- enough assignments to look at all for a law that is to hold, and one that is looked at for one that is to fail
 abbrev pub IsRightModel : List Equation → Model → Claims → Type 0
 IsRightModel laws (table size entries) claims =
     IsTable (record { size = size; entries = entries })
     × IsJudged laws (record { size = size; entries = entries }) claims.holds claims.fails
+IsRightModel laws (linear l) claims = IsLinearMagma l × Linears.IsJudged laws l claims.holds claims.fails
 
 -- with the laws of the cited numbers a proof derives its goal step by step; a magma is right
 abbrev pub IsRightBody : List Equation → FileBody → List ℕ → Type 0

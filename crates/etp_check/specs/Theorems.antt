@@ -7,7 +7,7 @@ use Rattle.etp_check.specs.Checks.{IsRightBody}
 use Rattle.etp_check.specs.Refusals.{IsBodyOffence}
 use Rattle.etp_check.specs.declared.refusal.CheckRefusal.{CheckRefusal}
 
-pub record CheckLaws : Type 0 where
+pub record CheckTheorems : Type 0 where
   -- a right body, and so a valid one, has no offence
   pub right_or_refused : (l : LawList) (body : FileBody) (cited : List ℕ) (r : CheckRefusal)
       → IsRightBody l.equations body cited → ¬ IsBodyOffence l body cited r

@@ -7,7 +7,7 @@ use Rattle.etp_items.specs.Reading.{IsReadBody}
 use Rattle.etp_items.specs.Written.{written_body, IsShortBody, HasFewLines}
 use Rattle.etp_check.specs.Checks.{IsRightBody}
 
-pub record WrittenLaws : Type 0 where
+pub record WrittenTheorems : Type 0 where
   -- a body that was read and is right is written in lines of at most 4096 bytes
   pub valid_body_short : (laws : List Equation) (cited : List ℕ) (count : ℕ) (lines : List LineText) (closed : Bool)
       (body : FileBody) → IsReadBody count lines closed body → IsRightBody laws body cited → IsShortBody body

@@ -1,16 +1,17 @@
 ghost use Rattle.std.specs.Prelude.{◌≡◌, ◌≤◌, ◌*◌, ℕ, IfOk, IfErr, OnOk, All, IsSome, length};
-ghost use Rattle.etp_theory.specs.Numbered.{law_numbered};
+ghost use Rattle.etp_theory.specs.LawNumbers.{law_numbered};
 ghost use Rattle.etp_theory.specs.Reach.{refutes};
 ghost use Rattle.etp_closure.specs.Facts.{fact_of};
-ghost use Rattle.etp_items.specs.Bodies.{body_of, proof_of, claims_of, proof, model, table};
+ghost use Rattle.etp_items.specs.Bodies.{body_of, proof_of, linear_in, claims_of, proof, model, table, linear};
 ghost use Rattle.etp_check.specs.Checks.{fact_said, IsListedBody, HasContent, AreCitedNumbers, IsValidBody, IsRightBody, IsRightModel, SaysRight};
 ghost use Rattle.etp_check.specs.Refusals.{IsCheckRefused};
 
 use crate::refusal::CheckRefusal;
 use etp_bits::Numbers;
 use etp_closure::Fact;
-use etp_items::{Body, Claims, TableBody};
+use etp_items::{Body, Claims, LinearBody, TableBody};
 use etp_laws::Laws;
+use etp_linear::Linear;
 use etp_proof::Proof;
 use etp_replay::replay;
 use etp_table::OpTable;
@@ -32,6 +33,7 @@ pub fn check(alloc: Global, laws: &Laws, body: &Body, cited: &[u32]) -> Result<F
     match body {
         Body::Proof(proof) => check_proof(alloc, laws, proof, cited),
         Body::Table(table) => check_table(alloc, laws, table, cited),
+        Body::Linear(linear) => check_linear(alloc, laws, linear, cited),
     }
 }
 
@@ -84,6 +86,32 @@ fn check_table(
     match table.judge(laws, claims.holds.as_slice(), claims.fails.as_slice()) {
         Ok(()) => Ok(refutation(alloc, claims)?),
         Err(refusal) => Err(CheckRefusal::of_table(refusal)),
+    }
+}
+
+fn check_linear(
+    alloc: Global,
+    laws: &Laws,
+    body: &LinearBody,
+    cited: &[u32],
+) -> Result<Fact, CheckRefusal>
+    requires holds { All (λ n. IsSome (law_numbered laws.now.equations n)) body.now.claims.holds }
+    requires fails { All (λ n. IsSome (law_numbered laws.now.equations n)) body.now.claims.fails }
+    ensures fact { IfOk result (λ fact. fact_of fact
+        ≡ fact_said (model (linear (linear_in body.now)) (claims_of body.now.claims))) }
+    ensures right { OnOk result (IsRightModel laws.now.equations
+        (linear (linear_in body.now)) (claims_of body.now.claims)) }
+    ensures err { IfErr result (λ r. IsCheckRefused laws.now
+        (model (linear (linear_in body.now)) (claims_of body.now.claims)) cited.now r) }
+{
+    let linear = match Linear::of(body.ring, body.a, body.b, body.c) {
+        Ok(linear) => linear,
+        Err(refusal) => return Err(CheckRefusal::Linear(refusal)),
+    };
+    let claims = &body.claims;
+    match linear.judge(laws, claims.holds.as_slice(), claims.fails.as_slice()) {
+        Ok(()) => Ok(refutation(alloc, claims)?),
+        Err(refusal) => Err(CheckRefusal::Linear(refusal)),
     }
 }
 

@@ -1,7 +1,7 @@
 //! The check of a file's body, which gives the fact that it states.
 #![tactic(auto)]
 
-ghost use Rattle.etp_check.specs.Theorems.{CheckLaws};
+ghost use Rattle.etp_check.specs.Theorems.{CheckTheorems};
 
 mod checking;
 mod refusal;
@@ -9,11 +9,11 @@ mod written;
 
 pub use checking::check;
 pub use refusal::CheckRefusal;
-pub use written::written_laws;
+pub use written::written_theorems;
 
 /// A body is valid, or it has one first offence.
-pub fn check_laws()
-    ensures { CheckLaws }
+pub fn check_theorems()
+    ensures { CheckTheorems }
 {}
 
 #[cfg(test)]

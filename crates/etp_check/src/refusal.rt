@@ -1,6 +1,7 @@
 ghost use Rattle.std.specs.Prelude.{◌≡◌, ◌≢◌, ◌⊎◌};
 ghost use Rattle.etp_check.specs.declared.refusal.CheckRefusal.TheVariants.{NoMemory};
 
+use etp_linear::LinearRefusal;
 use etp_replay::ReplayRefusal;
 use etp_table::TableRefusal;
 use std::alloc::AllocError;
@@ -15,6 +16,9 @@ pub enum CheckRefusal {
     /// The first offence of a table and its claims; it is never want of memory.
     #[error("the table isn't valid")]
     Table(TableRefusal),
+    /// The first offence of a linear magma and its claims.
+    #[error("the linear magma isn't valid")]
+    Linear(LinearRefusal),
     /// Want of memory.
     #[error("out of memory")]
     NoMemory,
@@ -31,7 +35,8 @@ impl From<AllocError> for CheckRefusal {
 impl CheckRefusal {
     // Want of memory is always the outermost refusal.
     pub(crate) fn of(refusal: ReplayRefusal) -> CheckRefusal
-        ensures { ((result ≡ CheckRefusal.NoMemory) × (refusal ≡ ReplayRefusal.NoMemory)) ⊎ ((result ≡ CheckRefusal.Replay refusal) × (refusal ≢ ReplayRefusal.NoMemory)) }
+        ensures { ((result ≡ CheckRefusal.NoMemory) × (refusal ≡ ReplayRefusal.NoMemory))
+            ⊎ ((result ≡ CheckRefusal.Replay refusal) × (refusal ≢ ReplayRefusal.NoMemory)) }
     {
         match refusal {
             ReplayRefusal::NoMemory => CheckRefusal::NoMemory,

@@ -5,7 +5,7 @@ use Rattle.etp_theory.specs.Reach.{Fact, implies, refutes}
 use Rattle.etp_theory.specs.RightFacts.{Implies, IsRightFact}
 use Rattle.etp_items.specs.Bodies.{FileBody}
 use Rattle.etp_check.specs.Checks.{fact_said, hypothesis_of, cites_of, AreImplied}
-use Rattle.etp_theory.specs.Numbered.{law_numbered}
+use Rattle.etp_theory.specs.LawNumbers.{law_numbered}
 use Rattle.etp_check.proofs.Rights.{right_fact}
 use Rattle.etp_ledger.specs.Files.{File, facts_of, is_named, body_named, IsFrom, StandsAsProof, ProvesFrom, goal_said, goal_in, cited_goals}
 use Rattle.etp_ledger.specs.Accepting.{IsAccepted, AreAcceptedAfter, AreAccepted}

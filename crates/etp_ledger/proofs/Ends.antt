@@ -1,7 +1,7 @@
 -- The two laws of a pair that follows from right facts are listed.
 use Rattle.std.proofs.Common.{◌≡◌, ℕ, List, Some, sym, subst}
 use Rattle.etp_theory.specs.Trees.{Equation}
-use Rattle.etp_theory.specs.Numbered.{law_numbered, dual_number}
+use Rattle.etp_theory.specs.LawNumbers.{law_numbered, dual_number}
 use Rattle.etp_theory.specs.Reach.{Fact, implies, refutes, Edge, plain_edge, dual_edge, RefutingPair, plain_pair, dual_pair, Reach, itself, along, Covers}
 use Rattle.etp_theory.specs.RightFacts.{AreRightFacts}
 

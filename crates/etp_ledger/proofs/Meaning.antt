@@ -4,10 +4,10 @@ use Rattle.std.proofs.lemmas.Option.{slice_get-get_or, slice_get_within}
 use Rattle.etp_theory.specs.Trees.{Equation, law_dual}
 use Rattle.etp_theory.specs.Sameness.{Same}
 use Rattle.etp_theory.specs.Reach.{Fact}
-use Rattle.etp_theory.specs.Numbered.{IsLaw, law_numbered, dual_number}
+use Rattle.etp_theory.specs.LawNumbers.{IsLaw, law_numbered, dual_number}
 use Rattle.etp_theory.specs.RightFacts.{AreRightFacts}
-use Rattle.etp_theory.proofs.Theorems.{reach_laws}
-use Rattle.etp_laws.specs.Listing.{trivial, IsTheList}
+use Rattle.etp_theory.proofs.Theorems.{reach_theorems}
+use Rattle.etp_laws.specs.Listing.{reflexive_law, IsTheList}
 use Rattle.etp_laws.specs.LawLists.{LawList, AreDuals}
 use Rattle.etp_laws.specs.Enumeration.{laws_upto}
 use Rattle.etp_laws.proofs.TheList.{laws_upto_is}
@@ -55,7 +55,7 @@ module _ (laws : List Equation) (duals : List ℕ) (are : AreDuals laws duals) w
 
   pub listed : (e : ℕ) → IsLaw (length duals) e → (p : Equation) × (law_numbered laws e ≡ Some p)
   listed zero is = absurd (omega (arith, is.from_one))
-  listed (suc k) is = (get_or laws k trivial, slice_get-get_or laws k trivial (omega (arith, is.to_last, are.long)))
+  listed (suc k) is = (get_or laws k reflexive_law, slice_get-get_or laws k reflexive_law (omega (arith, is.to_last, are.long)))
 
 module _ (order : ℕ) (files : List File) (closure : Known) (l : IsLedger order files closure) (laws : List Equation) (list : IsTheList order laws) where
   pub right_facts : AreRightFacts laws closure.duals (facts_of files)
@@ -65,17 +65,17 @@ module _ (order : ℕ) (files : List File) (closure : Known) (l : IsLedger order
   }
 
   not_both : (e f : ℕ) → IsTrue (is_reached closure e f) → IsTrue (is_covered closure e f) → ⊥
-  not_both e f r c = reach_laws.never_both laws closure.duals (facts_of files) right_facts e f ((l.stands.reached e f).0 r) ((l.stands.covered e f).0 c)
+  not_both e f r c = reach_theorems.never_both laws closure.duals (facts_of files) right_facts e f ((l.stands.reached e f).0 r) ((l.stands.covered e f).0 c)
 
   pub means : (e f : ℕ) → IsLaw (length closure.duals) e → IsLaw (length closure.duals) f → (a : Answer) → Says closure.duals (facts_of files) e f a → Means laws e f a
   means e f he hf Implied says =
       let p = listed laws closure.duals (l.duals laws list) e he in
       let q = listed laws closure.duals (l.duals laws list) f hf in
-      record { hypothesis = p.0; goal = q.0; hypothesis_listed = p.1; goal_listed = q.1; derived = reach_laws.derived laws closure.duals (facts_of files) right_facts e f p.0 q.0 p.1 q.1 says }
+      record { hypothesis = p.0; goal = q.0; hypothesis_listed = p.1; goal_listed = q.1; derived = reach_theorems.derived laws closure.duals (facts_of files) right_facts e f p.0 q.0 p.1 q.1 says }
   means e f he hf Refuted says =
       let p = listed laws closure.duals (l.duals laws list) e he in
       let q = listed laws closure.duals (l.duals laws list) f hf in
-      record { holding = p.0; failing = q.0; holding_listed = p.1; failing_listed = q.1; apart = reach_laws.apart laws closure.duals (facts_of files) right_facts e f p.0 q.0 p.1 q.1 says.1 }
+      record { holding = p.0; failing = q.0; holding_listed = p.1; failing_listed = q.1; apart = reach_theorems.apart laws closure.duals (facts_of files) right_facts e f p.0 q.0 p.1 q.1 says.1 }
   means e f he hf Unsettled says = tt
 
 pub closure_means : (order : ℕ) (files : List File) (closure : Known) → IsLedger order files closure → ClosureMeans order closure
@@ -85,12 +85,12 @@ closure_means order files closure l = record {
       let path = (l.stands.reached e f).0 r in
       let p = listed laws closure.duals (l.duals laws list) e (subst (λ n. IsLaw n e) (sym (l.duals laws list).long) is) in
       let q = end_listed laws closure.duals (facts_of files) right path p in
-      record { hypothesis = p.0; goal = q.0; hypothesis_listed = p.1; goal_listed = q.1; derived = reach_laws.derived laws closure.duals (facts_of files) right e f p.0 q.0 p.1 q.1 path };
+      record { hypothesis = p.0; goal = q.0; hypothesis_listed = p.1; goal_listed = q.1; derived = reach_theorems.derived laws closure.duals (facts_of files) right e f p.0 q.0 p.1 q.1 path };
   covered = λ laws e f list v.
       let right = right_facts order files closure l laws list in
       let cover = (l.stands.covered e f).0 v in
       let ends = covered_listed laws closure.duals (facts_of files) right cover in
-      record { holding = ends.0.0; failing = ends.1.0; holding_listed = ends.0.1; failing_listed = ends.1.1; apart = reach_laws.apart laws closure.duals (facts_of files) right e f ends.0.0 ends.1.0 ends.0.1 ends.1.1 cover };
+      record { holding = ends.0.0; failing = ends.1.0; holding_listed = ends.0.1; failing_listed = ends.1.1; apart = reach_theorems.apart laws closure.duals (facts_of files) right e f ends.0.0 ends.1.0 ends.0.1 ends.1.1 cover };
   never_both = λ e f r v. not_both order files closure l (laws_upto order) (laws_upto_is order) e f r v;
 }
 

@@ -1,7 +1,7 @@
 -- What an answer and the truth values of a closure mean for two laws.
 use Rattle.std.specs.Prelude.{ℕ, List, IsTrue, length}
 use Rattle.etp_theory.specs.Trees.{Equation}
-use Rattle.etp_theory.specs.Numbered.{IsLaw}
+use Rattle.etp_theory.specs.LawNumbers.{IsLaw}
 use Rattle.etp_theory.specs.RightFacts.{Implies, Refutes}
 use Rattle.etp_laws.specs.Listing.{IsTheList}
 use Rattle.etp_closure.specs.Closures.{Known, is_reached, is_covered}

@@ -2,7 +2,7 @@
 use Rattle.std.specs.Prelude.{◌≡◌, ◌⊎◌, ◌+◌, ℕ, List, Option, Some, None, All, slice_get, take}
 use Rattle.etp_laws.specs.LawLists.{LawList}
 use Rattle.etp_items.specs.Bodies.{FileBody}
-use Rattle.etp_theory.specs.Numbered.{IsLaw}
+use Rattle.etp_theory.specs.LawNumbers.{IsLaw}
 use Rattle.etp_check.specs.Checks.{fact_said, hypothesis_of, cites_of}
 use Rattle.etp_check.specs.Refusals.{IsBodyOffence}
 use Rattle.etp_ledger.specs.Files.{File, body_named, Stands, IsFrom, StandsAsProof, cited_goals}
@@ -21,12 +21,7 @@ IsCiteRefused files hypothesis name number (CiteMissing cite) =
     (cite ≡ number) × (body_named name files ≡ None)
 IsCiteRefused files hypothesis name number (CiteOther cite) =
     (cite ≡ number) × ProvesOther hypothesis (body_named name files)
-IsCiteRefused files hypothesis name number NameTaken = ⊥
-IsCiteRefused files hypothesis name number NoSuchName = ⊥
-IsCiteRefused files hypothesis name number (Check r) = ⊥
-IsCiteRefused files hypothesis name number (UnknownLaw n) = ⊥
-IsCiteRefused files hypothesis name number (Cited by) = ⊥
-IsCiteRefused files hypothesis name number NoMemory = ⊥
+IsCiteRefused files hypothesis name number _ = ⊥
 
 -- all cites before one stand for proofs from the hypothesis, and that one is refused; cites count
 -- from 1
@@ -57,29 +52,16 @@ IsFileRefused l files name body (Check r) =
     (body_named name files ≡ None) × All (StandsAsProof files (hypothesis_of body)) (cites_of body)
     × IsBodyOffence l body (cited_goals files body) r
 IsFileRefused l files name body NoMemory = Unit {0}
-IsFileRefused l files name body NoSuchName = ⊥
-IsFileRefused l files name body (UnknownLaw number) = ⊥
-IsFileRefused l files name body (Cited by) = ⊥
+IsFileRefused l files name body _ = ⊥
 
 -- the name doesn't stand; else a file cites it
 abbrev pub IsWithdrawalRefused : List File → List ℕ → LedgerRefusal → Type 0
 IsWithdrawalRefused files name NoSuchName = body_named name files ≡ None
 IsWithdrawalRefused files name (Cited by) = Stands files name × IsFirstCiting files name by
-IsWithdrawalRefused files name NameTaken = ⊥
-IsWithdrawalRefused files name (Check r) = ⊥
-IsWithdrawalRefused files name (UnknownLaw number) = ⊥
-IsWithdrawalRefused files name (CiteMissing cite) = ⊥
-IsWithdrawalRefused files name (CiteOther cite) = ⊥
-IsWithdrawalRefused files name NoMemory = ⊥
+IsWithdrawalRefused files name _ = ⊥
 
 -- the first of two numbers that is none of the laws 1 to the count
 abbrev pub IsQuestionRefused : ℕ → ℕ → ℕ → LedgerRefusal → Type 0
 IsQuestionRefused count e f (UnknownLaw number) =
     ((number ≡ e) × ¬ IsLaw count e) ⊎ ((number ≡ f) × IsLaw count e × ¬ IsLaw count f)
-IsQuestionRefused count e f NameTaken = ⊥
-IsQuestionRefused count e f NoSuchName = ⊥
-IsQuestionRefused count e f (Check r) = ⊥
-IsQuestionRefused count e f (Cited by) = ⊥
-IsQuestionRefused count e f (CiteMissing cite) = ⊥
-IsQuestionRefused count e f (CiteOther cite) = ⊥
-IsQuestionRefused count e f NoMemory = ⊥
+IsQuestionRefused count e f _ = ⊥

@@ -12,7 +12,7 @@ use Rattle.etp_ledger.specs.Refusals.{IsFileRefused, IsWithdrawalRefused}
 use Rattle.etp_ledger.specs.declared.refusal.LedgerRefusal.{LedgerRefusal}
 use Rattle.etp_ledger.specs.declared.refusal.LedgerRefusal.TheVariants.{NoMemory}
 
-pub record LedgerLaws : Type 0 where
+pub record LedgerTheorems : Type 0 where
   -- a file that can be accepted is refused for want of memory alone
   pub accepted_or_refused : (l : LawList) (files : List File) (name : List ℕ) (body : FileBody)
       (r : LedgerRefusal) → IsAccepted l.equations files name body

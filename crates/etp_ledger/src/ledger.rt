@@ -2,7 +2,7 @@ ghost use Rattle.std.specs.Prelude.{◌≡◌, ◌<◌, ◌≤◌, ◌++◌, ◌
 ghost use Rattle.etp_theory.specs.Trees.{Equation};
 ghost use Rattle.etp_laws.specs.Listing.{IsTheList};
 ghost use Rattle.etp_laws.specs.LawLists.{AreDuals};
-ghost use Rattle.etp_theory.specs.Numbered.{IsLaw};
+ghost use Rattle.etp_theory.specs.LawNumbers.{IsLaw};
 ghost use Rattle.etp_closure.specs.Closures.{StandsFor};
 ghost use Rattle.etp_closure.specs.Answers.{Says};
 ghost use Rattle.etp_closure.specs.Facts.{fact_of};

@@ -1,7 +1,7 @@
 //! Named files that are accepted and withdrawn, and the answers that follow from those that stand.
 #![tactic(auto)]
 
-ghost use Rattle.etp_ledger.specs.Theorems.{LedgerLaws};
+ghost use Rattle.etp_ledger.specs.Theorems.{LedgerTheorems};
 
 mod citing;
 mod facts;
@@ -15,8 +15,8 @@ pub use refusal::LedgerRefusal;
 
 /// A file is accepted, or it is refused in one way, and so is a withdrawal; only want of memory may
 /// come besides.
-pub fn ledger_laws()
-    ensures { LedgerLaws }
+pub fn ledger_theorems()
+    ensures { LedgerTheorems }
 {}
 
 #[cfg(test)]

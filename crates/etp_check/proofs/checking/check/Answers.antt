@@ -10,3 +10,7 @@ returns-in-Proof-clause-right c =
 pub returns-in-Table-clause-right : goal.returns-in-Table-clause-right
 returns-in-Table-clause-right c =
     says_right c.check_table.result c.args.laws.now.equations (body_of c.args.body.now) c.args.cited.now c.requires.listed c.requires.content c.requires.cited (search rules)
+
+pub returns-in-Linear-clause-right : goal.returns-in-Linear-clause-right
+returns-in-Linear-clause-right c =
+    says_right c.check_linear.result c.args.laws.now.equations (body_of c.args.body.now) c.args.cited.now c.requires.listed c.requires.content c.requires.cited (search rules)

@@ -1,6 +1,6 @@
 use Rattle.std.proofs.Common.{sym, subst, rules}
 use Rattle.etp_laws.specs.Listing.{IsTheList}
-use Rattle.etp_theory.specs.Numbered.{IsLaw}
+use Rattle.etp_theory.specs.LawNumbers.{IsLaw}
 use Rattle.etp_ledger.specs.Files.{facts_of}
 use Rattle.etp_ledger.specs.Kept.{files_of}
 use Rattle.etp_ledger.specs.Ledgers.{Entries}

@@ -1,5 +1,5 @@
 use Rattle.etp_ledger.proofs.Verdicts.{accepted_or_refused, right_or_refused, one_refusal, withdrawn_or_refused, one_withdrawal_refusal, one_more, one_less}
-use Rattle.etp_ledger.proofs.ledger_laws.Goals as goal
+use Rattle.etp_ledger.proofs.ledger_theorems.Goals as goal
 
 pub returns : goal.returns
 returns c = record {
