@@ -15,8 +15,8 @@ use Rattle.etp_desk.specs.Desks.{opened_of, Agrees, Leaves}
 use Rattle.etp_desk.specs.declared.opened.Opened.{Opened}
 use Rattle.etp_desk.proofs.Opening.{kept}
 use Rattle.etp_filing.specs.FileReplies.{FileReply, names_unbuilt, begins_unbuilt, are_all_blank, said_text, accepted_with, accepted_line}
-use Rattle.etp_filing.specs.Filings.{begins_as, with_line, IsReading}
-use Rattle.etp_filing.specs.declared.filing.Begins.TheVariants.{Blank, NotBuilt, Other}
+use Rattle.etp_filing.specs.Filings.{first_line_of, with_line, IsReading}
+use Rattle.etp_filing.specs.declared.filing.FirstLine.TheVariants.{Blank, NotBuilt, Other}
 use Rattle.etp_filing.proofs.FilingLemmas.{unbuilt-first, unbuilt-later, blank-first, blank-later, placed-stands, unplaced-free}
 
 -- a file that is refused
@@ -34,7 +34,7 @@ refuses-file o g closed n text why flag a e r h = record {
 }
 
 -- what a first line tells
-pub first-blank : (l : LineText) → begins_as l ≡ Blank → (names_unbuilt (l ∷ []) ≡ false) × (are_all_blank (l ∷ []) ≡ true)
+pub first-blank : (l : LineText) → first_line_of l ≡ Blank → (names_unbuilt (l ∷ []) ≡ false) × (are_all_blank (l ∷ []) ≡ true)
 first-blank too_long h = absurd (cc)
 first-blank (whole line) h = go (are_blank (words_of line)) (begins_unbuilt (words_of line)) refl refl h
   where
@@ -44,7 +44,7 @@ first-blank (whole line) h = go (are_blank (words_of line)) (begins_unbuilt (wor
     go false true e f h = absurd (cc)
     go false false e f h = absurd (cc)
 
-pub first-other : (l : LineText) → begins_as l ≡ Other → (names_unbuilt (l ∷ []) ≡ false) × (are_all_blank (l ∷ []) ≡ false)
+pub first-other : (l : LineText) → first_line_of l ≡ Other → (names_unbuilt (l ∷ []) ≡ false) × (are_all_blank (l ∷ []) ≡ false)
 first-other too_long h = (refl, refl)
 first-other (whole line) h = go (are_blank (words_of line)) (begins_unbuilt (words_of line)) refl refl h
   where
@@ -54,7 +54,7 @@ first-other (whole line) h = go (are_blank (words_of line)) (begins_unbuilt (wor
     go false true e f h = absurd (cc)
     go false false e f h = (rw (e, f) refl, rw e refl)
 
-pub first-unbuilt : (l : LineText) → begins_as l ≡ NotBuilt → names_unbuilt (l ∷ []) ≡ true
+pub first-unbuilt : (l : LineText) → first_line_of l ≡ NotBuilt → names_unbuilt (l ∷ []) ≡ true
 first-unbuilt too_long h = absurd (cc)
 first-unbuilt (whole line) h = go (are_blank (words_of line)) (begins_unbuilt (words_of line)) refl refl h
   where
@@ -65,7 +65,7 @@ first-unbuilt (whole line) h = go (are_blank (words_of line)) (begins_unbuilt (w
     go false false e f h = absurd (cc)
 
 -- a line more, before which all are blank
-pub reads-blank : (o : Opened) (name : List ℕ) (r s : BodyReader) (g : Filing) (l : LineText) → begins_as l ≡ Blank
+pub reads-blank : (o : Opened) (name : List ℕ) (r s : BodyReader) (g : Filing) (l : LineText) → first_line_of l ≡ Blank
     → ((lines : List LineText) → HasRead r lines → HasRead s (lines ++ l ∷ [])) → s.tally.count ≡ r.tally.count
     → IsReading o name r g × (are_all_blank g.lines ≡ true) → IsReading o name s (with_line g l) × (are_all_blank (g.lines ++ l ∷ []) ≡ true)
 reads-blank o name r s g l b pushed count h =
@@ -74,7 +74,7 @@ reads-blank o name r s g l b pushed count h =
       blank-first g.lines l h.1 ∙ first.1,
     )
 
-pub reads-other : (o : Opened) (name : List ℕ) (r s : BodyReader) (g : Filing) (l : LineText) → begins_as l ≡ Other
+pub reads-other : (o : Opened) (name : List ℕ) (r s : BodyReader) (g : Filing) (l : LineText) → first_line_of l ≡ Other
     → ((lines : List LineText) → HasRead r lines → HasRead s (lines ++ l ∷ [])) → s.tally.count ≡ r.tally.count
     → IsReading o name r g × (are_all_blank g.lines ≡ true) → IsReading o name s (with_line g l) × (are_all_blank (g.lines ++ l ∷ []) ≡ false)
 reads-other o name r s g l b pushed count h =

@@ -8,12 +8,12 @@ use Rattle.std.proofs.Common.{get_or}
 use Rattle.std.proofs.Common.{◌-◌}
 use Rattle.std.proofs.lemmas.Bool.{lt-ltb, le-ltb}
 use Rattle.std.proofs.lemmas.Option.{slice_get-get_or}
-use Rattle.etp_laws.specs.Listing.{trivial}
+use Rattle.etp_laws.specs.Listing.{reflexive_law}
 use Rattle.etp_theory.specs.Trees.{Equation}
 use Rattle.etp_laws.proofs.Entries.{entry_after}
-use Rattle.etp_theory.specs.Numbered.{law_numbered, IsLaw}
+use Rattle.etp_theory.specs.LawNumbers.{law_numbered, IsLaw}
 use Rattle.etp_words.specs.Words.{words_of, are_blank}
-use Rattle.etp_items.specs.Bodies.{FileBody, table, proof, model}
+use Rattle.etp_items.specs.Bodies.{FileBody, table, linear, proof, model}
 use Rattle.etp_items.specs.Reading.{IsBody, IsReadBody}
 use Rattle.etp_items.proofs.Writable.{body_writable}
 use Rattle.etp_items.proofs.ReadAgain.{listed_numbers}
@@ -125,11 +125,12 @@ pub body-content : (lines : List LineText) (b : FileBody) → IsBody lines b →
 body-content lines (proof p) h = (body_writable lines (proof p) h).0
 body-content lines (model (table size entries) claims) h =
     let w = (body_writable lines (model (table size entries) claims) h).0 in (w.0, w.2)
+body-content lines (model (linear l) claims) h = tt
 
 entry-there : (laws : List Equation) (n : ℕ) → 1 ≤ n → n ≤ length laws → IsSome (law_numbered laws n)
 entry-there laws n h k =
     let listed : law_numbered laws n ≡ slice_get laws (n - 1) = entry_after laws n (omega (arith, h)) in
-    let there : slice_get laws (n - 1) ≡ Some (get_or laws (n - 1) trivial) = slice_get-get_or laws (n - 1) trivial (omega (arith, h, k)) in
+    let there : slice_get laws (n - 1) ≡ Some (get_or laws (n - 1) reflexive_law) = slice_get-get_or laws (n - 1) reflexive_law (omega (arith, h, k)) in
     rw (listed, there) refl
 
 -- and its law numbers are listed

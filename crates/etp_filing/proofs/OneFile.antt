@@ -7,7 +7,7 @@ use Rattle.etp_io.specs.Texts.{LineText}
 use Rattle.etp_proof.specs.Names.{IsName}
 use Rattle.etp_items.specs.Bodies.{FileBody}
 use Rattle.etp_items.specs.Reading.{IsReadBody}
-use Rattle.etp_items.proofs.Theorems.{body_laws}
+use Rattle.etp_items.proofs.Theorems.{body_theorems}
 use Rattle.etp_reading.specs.declared.refusal.BodyRefusal.{BodyRefusal}
 use Rattle.etp_check.specs.Checks.{fact_said}
 use Rattle.etp_ledger.specs.Files.{File, Stands, body_named}
@@ -64,7 +64,7 @@ two-refused : (o : Opened) (f : Filing) (closed : Bool) → IsTheList o.laws.ord
     → refused_file n (file_refusal r) ≡ refused_file m (file_refusal s)
 two-refused o f closed l n m b c r s v w q p h k x y =
     let name : m ≡ n = same_name f.word m n w.word_is v.word_is in
-    let body : c ≡ b = body_laws.one_body f.lines c b p.is_body q.is_body in
+    let body : c ≡ b = body_theorems.one_body f.lines c b p.is_body q.is_body in
     let there : IsFileRefused o.laws o.files n b s = subst (λ (d : FileBody). IsFileRefused o.laws o.files n d s) body (subst (λ (i : List ℕ). IsFileRefused o.laws o.files i c s) name k) in
     ap (λ (t : LedgerRefusal). refused_file n (file_refusal t)) (file_refusal-only o.laws o.files n b r s l h there x y) ∙ ap (λ (i : List ℕ). refused_file i (file_refusal s)) (sym name)
 
@@ -74,7 +74,7 @@ refused-accepted : (o : Opened) (f : Filing) (closed : Bool) (n m : List ℕ) (b
     → IsFileRefused o.laws o.files n b r → r ≢ NoMemory → IsAccepted o.laws.equations o.files m c → ⊥
 refused-accepted o f closed n m b c r v w q p h x a =
     let name : m ≡ n = same_name f.word m n w.word_is v.word_is in
-    let body : c ≡ b = body_laws.one_body f.lines c b p.is_body q.is_body in
+    let body : c ≡ b = body_theorems.one_body f.lines c b p.is_body q.is_body in
     let there : IsAccepted o.laws.equations o.files n b = subst (λ (d : FileBody). IsAccepted o.laws.equations o.files n d) body (subst (λ (i : List ℕ). IsAccepted o.laws.equations o.files i c) name a) in
     x (Verdict.accepted_or_refused o.laws o.files n b r there h)
 
@@ -101,21 +101,21 @@ file_reply-only o f closed l r s g h (not_built pm pw pu pe pf) (accepted qm qb 
 file_reply-only o f closed l r s g h (no_body pm pr pw pu pq pe pf) (no_name qn qe qf) = absurd (no_name-named f.word pm qn pw.word_is pw.is_name)
 file_reply-only o f closed l r s g h (no_body pm pr pw pu pq pe pf) (name_taken qm qw qi qs qe qf) = absurd (taken-free o.files f.word qm pm qw qs pw)
 file_reply-only o f closed l r s g h (no_body pm pr pw pu pq pe pf) (not_built qm qw qu qe qf) = absurd (true_false _ qu pu)
-file_reply-only o f closed l r s g h (no_body pm pr pw pu pq pe pf) (no_body qm qr qw qu qq qe qf) = (pe ∙ ap (λ (n : List ℕ). refused_file n (body_refusal pr)) (same_name f.word pm qm pw.word_is qw.word_is) ∙ ap (λ (k : BodyRefusal). refused_file qm (body_refusal k)) (body_laws.one_refusal _ f.lines closed pr qr pq qq) ∙ sym qe, pf ∙ sym qf)
-file_reply-only o f closed l r s g h (no_body pm pr pw pu pq pe pf) (not_accepted qm qb qr qw qu qq qt qk qe qf) = absurd (body_laws.body_stands _ f.lines closed qb pr qq pq)
-file_reply-only o f closed l r s g h (no_body pm pr pw pu pq pe pf) (accepted qm qb qw qu qq qt qe qf) = absurd (body_laws.body_stands _ f.lines closed qb pr qq pq)
+file_reply-only o f closed l r s g h (no_body pm pr pw pu pq pe pf) (no_body qm qr qw qu qq qe qf) = (pe ∙ ap (λ (n : List ℕ). refused_file n (body_refusal pr)) (same_name f.word pm qm pw.word_is qw.word_is) ∙ ap (λ (k : BodyRefusal). refused_file qm (body_refusal k)) (body_theorems.one_refusal _ f.lines closed pr qr pq qq) ∙ sym qe, pf ∙ sym qf)
+file_reply-only o f closed l r s g h (no_body pm pr pw pu pq pe pf) (not_accepted qm qb qr qw qu qq qt qk qe qf) = absurd (body_theorems.body_stands _ f.lines closed qb pr qq pq)
+file_reply-only o f closed l r s g h (no_body pm pr pw pu pq pe pf) (accepted qm qb qw qu qq qt qe qf) = absurd (body_theorems.body_stands _ f.lines closed qb pr qq pq)
 file_reply-only o f closed l r s g h (not_accepted pm pb pr pw pu pq pt pk pe pf) (no_name qn qe qf) = absurd (no_name-named f.word pm qn pw.word_is pw.is_name)
 file_reply-only o f closed l r s g h (not_accepted pm pb pr pw pu pq pt pk pe pf) (name_taken qm qw qi qs qe qf) = absurd (taken-free o.files f.word qm pm qw qs pw)
 file_reply-only o f closed l r s g h (not_accepted pm pb pr pw pu pq pt pk pe pf) (not_built qm qw qu qe qf) = absurd (true_false _ qu pu)
-file_reply-only o f closed l r s g h (not_accepted pm pb pr pw pu pq pt pk pe pf) (no_body qm qr qw qu qq qe qf) = absurd (body_laws.body_stands _ f.lines closed pb qr pq qq)
+file_reply-only o f closed l r s g h (not_accepted pm pb pr pw pu pq pt pk pe pf) (no_body qm qr qw qu qq qe qf) = absurd (body_theorems.body_stands _ f.lines closed pb qr pq qq)
 file_reply-only o f closed l r s g h (not_accepted pm pb pr pw pu pq pt pk pe pf) (not_accepted qm qb qr qw qu qq qt qk qe qf) = (pe ∙ two-refused o f closed l pm qm pb qb pr qr pw qw pq qq pt qt pk qk ∙ sym qe, pf ∙ sym qf)
 file_reply-only o f closed l r s g h (not_accepted pm pb pr pw pu pq pt pk pe pf) (accepted qm qb qw qu qq qt qe qf) = absurd (refused-accepted o f closed pm qm pb qb pr pw qw pq qq pt pk qt)
 file_reply-only o f closed l r s g h (accepted pm pb pw pu pq pt pe pf) (no_name qn qe qf) = absurd (no_name-named f.word pm qn pw.word_is pw.is_name)
 file_reply-only o f closed l r s g h (accepted pm pb pw pu pq pt pe pf) (name_taken qm qw qi qs qe qf) = absurd (taken-free o.files f.word qm pm qw qs pw)
 file_reply-only o f closed l r s g h (accepted pm pb pw pu pq pt pe pf) (not_built qm qw qu qe qf) = absurd (true_false _ qu pu)
-file_reply-only o f closed l r s g h (accepted pm pb pw pu pq pt pe pf) (no_body qm qr qw qu qq qe qf) = absurd (body_laws.body_stands _ f.lines closed pb qr pq qq)
+file_reply-only o f closed l r s g h (accepted pm pb pw pu pq pt pe pf) (no_body qm qr qw qu qq qe qf) = absurd (body_theorems.body_stands _ f.lines closed pb qr pq qq)
 file_reply-only o f closed l r s g h (accepted pm pb pw pu pq pt pe pf) (not_accepted qm qb qr qw qu qq qt qk qe qf) = absurd (refused-accepted o f closed qm pm qb pb qr qw pw qq pq qt qk pt)
-file_reply-only o f closed l r s g h (accepted pm pb pw pu pq pt pe pf) (accepted qm qb qw qu qq qt qe qf) = (pe ∙ ap (λ (n : List ℕ). answered (accepted_line n (fact_said pb))) (same_name f.word pm qm pw.word_is qw.word_is) ∙ ap (λ (c : FileBody). answered (accepted_line qm (fact_said c))) (body_laws.one_body f.lines pb qb pq.is_body qq.is_body) ∙ sym qe, pf ∙ two-files o.files pm qm pb qb (same_name f.word pm qm pw.word_is qw.word_is) (body_laws.one_body f.lines pb qb pq.is_body qq.is_body) ∙ sym qf)
+file_reply-only o f closed l r s g h (accepted pm pb pw pu pq pt pe pf) (accepted qm qb qw qu qq qt qe qf) = (pe ∙ ap (λ (n : List ℕ). answered (accepted_line n (fact_said pb))) (same_name f.word pm qm pw.word_is qw.word_is) ∙ ap (λ (c : FileBody). answered (accepted_line qm (fact_said c))) (body_theorems.one_body f.lines pb qb pq.is_body qq.is_body) ∙ sym qe, pf ∙ two-files o.files pm qm pb qb (same_name f.word pm qm pw.word_is qw.word_is) (body_theorems.one_body f.lines pb qb pq.is_body qq.is_body) ∙ sym qf)
 
 pub body_reply-only : (o : Opened) (f : Filing) → IsTheList o.laws.order o.laws.equations → (line : LineText) (r s : Reply) (g h : State) → BodyReply o f line r g → BodyReply o f line s h → (r ≡ s) × (g ≡ h)
 body_reply-only o f l line r s g h (goes_on t e x) (goes_on u i y) = (e ∙ sym i, x ∙ sym y)

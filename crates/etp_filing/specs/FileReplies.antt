@@ -31,7 +31,7 @@ closes_body (whole line) = is_end (words_of line)
 
 -- the first words of the bodies of kinds that aren't built yet
 abbrev pub unbuilt_kinds : List (List ℕ)
-unbuilt_kinds = codes "linear" ∷ codes "rules" ∷ []
+unbuilt_kinds = codes "rules" ∷ []
 
 abbrev pub begins_unbuilt : List (List ℕ) → Bool
 begins_unbuilt [] = false

@@ -13,8 +13,8 @@ use Rattle.etp_filing.specs.FileReplies.{FileReply, HasNoName, HasFreeName, name
 use Rattle.etp_filing.specs.declared.filing.Filing.{Filing}
 use Rattle.etp_filing.specs.declared.filing.Pending.{Pending}
 use Rattle.etp_filing.specs.declared.filing.Pending.TheVariants as Kept
-use Rattle.etp_filing.specs.declared.filing.Begins.{Begins}
-use Rattle.etp_filing.specs.declared.filing.Begins.TheVariants.{Blank, NotBuilt, Other}
+use Rattle.etp_filing.specs.declared.filing.FirstLine.{FirstLine}
+use Rattle.etp_filing.specs.declared.filing.FirstLine.TheVariants.{Blank, NotBuilt, Other}
 use Rattle.etp_filing.specs.declared.accepting.Said.{Said}
 use Rattle.etp_filing.specs.declared.accepting.Said.TheVariants.{Implies, Refutes}
 
@@ -36,10 +36,10 @@ pub record IsFiling (o : Opened) (f : Filing) (g : States.Filing) : Type 0 where
   pub number_is : g.number ≡ f.number
   pub pending : IsPending o f.pending g
 
--- what a first line begins with
-abbrev pub begins_as : LineText → Begins
-begins_as too_long = Other
-begins_as (whole line) = if are_blank (words_of line) then Blank else (if begins_unbuilt (words_of line) then NotBuilt else Other)
+-- what a first line is by its first word
+abbrev pub first_line_of : LineText → FirstLine
+first_line_of too_long = Other
+first_line_of (whole line) = if are_blank (words_of line) then Blank else (if begins_unbuilt (words_of line) then NotBuilt else Other)
 
 -- the file with one body line more
 abbrev pub with_line : States.Filing → LineText → States.Filing

@@ -37,6 +37,10 @@ fn laws_said(body: &Body) -> Said
             holds: table.claims.holds.len(),
             fails: table.claims.fails.len(),
         },
+        Body::Linear(linear) => Said::Refutes {
+            holds: linear.claims.holds.len(),
+            fails: linear.claims.fails.len(),
+        },
     }
 }
 

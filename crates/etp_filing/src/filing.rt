@@ -7,7 +7,7 @@ ghost use Rattle.etp_reading.specs.Reading.{given_text};
 ghost use Rattle.etp_desk.specs.States.{Filing as FilingOf};
 ghost use Rattle.etp_desk.specs.Desks.{Agrees};
 ghost use Rattle.etp_filing.specs.FileReplies.{closes_body, unbuilt_kinds, HasFreeName};
-ghost use Rattle.etp_filing.specs.Filings.{begins_as, with_line, loading, IsPending, IsFiling};
+ghost use Rattle.etp_filing.specs.Filings.{first_line_of, with_line, loading, IsPending, IsFiling};
 
 use etp_command::only_word;
 use etp_desk::Opened;
@@ -38,9 +38,9 @@ pub struct Filing {
     pub(crate) pending: Pending,
 }
 
-/// What the first line of a body that isn't blank begins with.
+/// What the first line of a body is by its first word.
 #[derive(Clone, Copy, PartialEq, Eq)]
-pub(crate) enum Begins {
+pub(crate) enum FirstLine {
     /// The line is blank.
     Blank,
     /// The word of a kind that isn't built.
@@ -49,28 +49,28 @@ pub(crate) enum Begins {
     Other,
 }
 
-fn beginning(line: Option<&[u8]>) -> Begins
-    ensures { result ≡ begins_as (given_text line.entry) }
+fn first_line(line: Option<&[u8]>) -> FirstLine
+    ensures { result ≡ first_line_of (given_text line.entry) }
 {
     let Some(line) = line else {
-        return Begins::Other;
+        return FirstLine::Other;
     };
     let Some((word, _)) = next_word(line) else {
-        return Begins::Blank;
+        return FirstLine::Blank;
     };
     if is_comment(word) {
-        return Begins::Blank;
+        return FirstLine::Blank;
     }
     if is_unbuilt_kind(word) {
-        return Begins::NotBuilt;
+        return FirstLine::NotBuilt;
     }
-    Begins::Other
+    FirstLine::Other
 }
 
 fn is_unbuilt_kind(word: &[u8]) -> bool
     ensures { result ≡ list_any (is_word word.now) unbuilt_kinds }
 {
-    is(word, "linear") || is(word, "rules")
+    is(word, "rules")
 }
 
 /// Whether the line closes a body.
@@ -164,13 +164,13 @@ fn take_first_line(
     requires { IfSome line (λ bytes. length bytes.now ≤ 4096) }
     ensures { IfOk result (λ next. (o : Opened) (g : FilingOf) → IsPending o (Pending.Blank name reader) g → IsPending o next (with_line g (given_text line.entry))) }
 {
-    match beginning(line) {
-        Begins::NotBuilt => Ok(Pending::NotBuilt(name)),
-        Begins::Blank => {
+    match first_line(line) {
+        FirstLine::NotBuilt => Ok(Pending::NotBuilt(name)),
+        FirstLine::Blank => {
             reader.push(line)?;
             Ok(Pending::Blank(name, reader))
         }
-        Begins::Other => {
+        FirstLine::Other => {
             reader.push(line)?;
             Ok(Pending::Begun(name, reader))
         }

@@ -1,5 +1,6 @@
 -- The texts of refusals.
-use Rattle.std.specs.Prelude.{ℕ, ◌+◌, List, [], ◌∷◌, ◌++◌, codes, decimal}
+use Rattle.std.specs.Prelude.{ℕ, ℤ, ◌+◌, List, [], ◌∷◌, ◌++◌, codes, decimal, Option, None, Some}
+use Rattle.std.specs.Fmt.{signed_decimal}
 use Rattle.etp_laws.specs.declared.laws.Numbered.{Numbered}
 use Rattle.etp_laws.specs.declared.laws.Numbered.TheVariants.{Is, Trivial, TooManyOps}
 use Rattle.etp_text.specs.declared.refusal.TextRefusal.{TextRefusal}
@@ -15,6 +16,11 @@ use Rattle.etp_text.specs.Written.{variable_name}
 use Rattle.etp_table.specs.Points.{values_of}
 use Rattle.etp_table.specs.declared.refusal.TableRefusal.{TableRefusal}
 use Rattle.etp_table.specs.declared.refusal.TableRefusal.TheVariants as Table
+use Rattle.etp_linear.specs.declared.parts.Which.{Which}
+use Rattle.etp_linear.specs.declared.parts.Which.TheVariants.{Modulus, A, B, C}
+use Rattle.etp_linear.specs.declared.parts.LinearFailure.{LinearFailure}
+use Rattle.etp_linear.specs.declared.refusal.LinearRefusal.{LinearRefusal}
+use Rattle.etp_linear.specs.declared.refusal.LinearRefusal.TheVariants as Linear
 use Rattle.etp_replay.specs.declared.refusal.ReplayRefusal.TheVariants.{Reference, NoPlace, OutsideChanged, NoMatch, GoalDiffers, Citation, NoMemory}
 
 -- why the text of a law is refused
@@ -80,10 +86,38 @@ table_refusal (Table.FailsHolds law looked_at) =
     codes "fails holds law " ++ decimal law ++ codes " looked at " ++ decimal looked_at
 table_refusal Table.NoMemory = []
 
+-- what is out of range
+abbrev pub which_word : Which → List ℕ
+which_word Modulus = codes "modulus"
+which_word A = codes "a"
+which_word B = codes "b"
+which_word C = codes "c"
+
+-- and its value
+abbrev pub coefficient_text : Which → ℤ → List ℕ
+coefficient_text which value = codes "coefficient " ++ which_word which ++ codes " value " ++ signed_decimal value
+
+-- all zero, or the variable that is 1 while all others are zero, behind a space
+abbrev pub unit_text : Option ℕ → List ℕ
+unit_text None = codes " zero"
+unit_text (Some variable) = value_text variable 1
+
+-- where a law fails in a linear magma, and the values of both sides
+abbrev pub failure_text : LinearFailure → List ℕ
+failure_text f =
+    unit_text f.variable ++ codes " left " ++ signed_decimal f.left ++ codes " right " ++ signed_decimal f.right
+
+-- why a linear magma is refused
+abbrev pub linear_refusal : LinearRefusal → List ℕ
+linear_refusal (Linear.Coefficient which value) = coefficient_text which value
+linear_refusal (Linear.HoldsFails law failure) = codes "holds fails law " ++ decimal law ++ failure_text failure
+linear_refusal (Linear.FailsHolds law) = codes "fails holds law " ++ decimal law
+
 -- why a body isn't valid
 abbrev pub check_refusal : CheckRefusal → List ℕ
 check_refusal (Checked.Replay r) = replay_refusal r
 check_refusal (Checked.Table r) = table_refusal r
+check_refusal (Checked.Linear r) = linear_refusal r
 check_refusal Checked.NoMemory = []
 
 -- why the ledger refuses a file

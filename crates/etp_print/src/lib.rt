@@ -2,10 +2,12 @@
 #![tactic(auto)]
 
 mod line;
+mod linear;
 mod refusal;
 mod table;
 
 pub use line::{begin_refusal, refuse, refuse_file, refuse_name, refuse_with};
+pub use linear::linear_text;
 pub use refusal::{body_refusal_text, file_refusal_text, replay_text};
 pub use table::table_text;
 

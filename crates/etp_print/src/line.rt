@@ -7,7 +7,8 @@ use std::alloc::{AllocError, Global};
 
 /// Begins a refusal line: what is appended up to its end says why.
 pub fn begin_refusal(text: &mut Text, line: u64) -> Result<(), AllocError>
-    ensures { OnOk result (text.new ≡ text.old ++ (codes "refused " ++ decimal line ++ codes ": ")) }
+    ensures { OnOk result (text.new ≡ text.old
+        ++ (codes "refused " ++ decimal line ++ codes ": ")) }
 {
     text.append(b"refused ")?;
     text.append_number(line)?;
@@ -17,7 +18,8 @@ pub fn begin_refusal(text: &mut Text, line: u64) -> Result<(), AllocError>
 /// Writes a refusal line, and answers that it is one.
 pub fn refuse(text: &mut Text, line: u64, why: &[u8]) -> Result<bool, AllocError>
     requires { text.old ≡ [] }
-    ensures { IfOk result (λ refusal. (text.new ≡ reply_text line (refused why.now)) × (refusal ≡ true)) }
+    ensures { IfOk result (λ refusal. (text.new ≡ reply_text line (refused why.now))
+        × (refusal ≡ true)) }
 {
     begin_refusal(text, line)?;
     text.append(why)?;
@@ -28,7 +30,8 @@ pub fn refuse(text: &mut Text, line: u64, why: &[u8]) -> Result<bool, AllocError
 /// Writes a refusal line that ends with a number.
 pub fn refuse_with(text: &mut Text, line: u64, why: &[u8], n: u32) -> Result<bool, AllocError>
     requires { text.old ≡ [] }
-    ensures { IfOk result (λ refusal. (text.new ≡ reply_text line (refused (why.now ++ decimal n))) × (refusal ≡ true)) }
+    ensures { IfOk result (λ refusal. (text.new ≡ reply_text line (refused (why.now ++ decimal n)))
+        × (refusal ≡ true)) }
 {
     begin_refusal(text, line)?;
     text.append(why)?;
@@ -40,7 +43,8 @@ pub fn refuse_with(text: &mut Text, line: u64, why: &[u8], n: u32) -> Result<boo
 /// Writes a refusal line that ends with a name.
 pub fn refuse_name(text: &mut Text, line: u64, why: &[u8], name: &[u8]) -> Result<bool, AllocError>
     requires { text.old ≡ [] }
-    ensures { IfOk result (λ refusal. (text.new ≡ reply_text line (refused (why.now ++ name.now))) × (refusal ≡ true)) }
+    ensures { IfOk result (λ refusal. (text.new ≡ reply_text line (refused (why.now ++ name.now)))
+        × (refusal ≡ true)) }
 {
     begin_refusal(text, line)?;
     text.append(why)?;
@@ -52,7 +56,8 @@ pub fn refuse_name(text: &mut Text, line: u64, why: &[u8], name: &[u8]) -> Resul
 /// Writes the refusal line of a file's content.
 pub fn refuse_file(text: &mut Text, line: u64, name: &[u8], why: &[u8]) -> Result<bool, AllocError>
     requires { text.old ≡ [] }
-    ensures { IfOk result (λ refusal. (text.new ≡ reply_text line (refused_file name.now why.now)) × (refusal ≡ true)) }
+    ensures { IfOk result (λ refusal. (text.new ≡ reply_text line (refused_file name.now why.now))
+        × (refusal ≡ true)) }
 {
     begin_refusal(text, line)?;
     text.append(name)?;

@@ -2,6 +2,7 @@
 ghost use Rattle.std.specs.Prelude.{◌≡◌, ◌≢◌, ◌++◌, IfOk, OnOk, codes, decimal};
 ghost use Rattle.etp_print.specs.RefusalTexts.{body_refusal, found_text, step_place, replay_refusal, file_refusal};
 
+use crate::linear::append_linear_refusal;
 use crate::table::append_table_refusal;
 use etp_check::CheckRefusal;
 use etp_laws::Numbered;
@@ -36,7 +37,8 @@ fn append_body_refusal(text: &mut Text, refusal: BodyRefusal) -> Result<(), Allo
 
 // Appends that another law than the goal was found.
 fn append_found(text: &mut Text, found: Numbered) -> Result<(), AllocError>
-    ensures { OnOk result (text.new ≡ text.old ++ (codes "goal differs found " ++ found_text found)) }
+    ensures { OnOk result (text.new ≡ text.old
+        ++ (codes "goal differs found " ++ found_text found)) }
 {
     match found {
         Numbered::Is(n) => append_with(text, b"goal differs found ", n),
@@ -87,6 +89,7 @@ fn append_file_refusal(text: &mut Text, refusal: &LedgerRefusal) -> Result<(), A
     match refusal {
         LedgerRefusal::Check(CheckRefusal::Replay(refusal)) => append_replay_refusal(text, refusal),
         LedgerRefusal::Check(CheckRefusal::Table(refusal)) => append_table_refusal(text, refusal),
+        LedgerRefusal::Check(CheckRefusal::Linear(refusal)) => append_linear_refusal(text, refusal),
         LedgerRefusal::CiteMissing { cite } => append_with(text, b"cite missing ", *cite),
         LedgerRefusal::CiteOther { cite } => append_with(text, b"cite other ", *cite),
         LedgerRefusal::NoMemory => Err(AllocError),

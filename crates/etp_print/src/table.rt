@@ -10,7 +10,7 @@ use etp_text::Text;
 use std::alloc::{AllocError, Global};
 
 // Appends the value of a variable, behind a space.
-fn append_value(text: &mut Text, variable: u8, value: u8) -> Result<(), AllocError>
+pub(crate) fn append_value(text: &mut Text, variable: u8, value: u8) -> Result<(), AllocError>
     ensures { OnOk result (text.new ≡ text.old ++ value_text variable value) }
 {
     text.append(b" ")?;

@@ -1,8 +1,9 @@
 use crate::{
-    begin_refusal, body_refusal_text, file_refusal_text, refuse, refuse_file, refuse_name,
-    refuse_with, replay_text, table_text,
+    begin_refusal, body_refusal_text, file_refusal_text, linear_text, refuse, refuse_file,
+    refuse_name, refuse_with, replay_text, table_text,
 };
 use etp_ledger::LedgerRefusal;
+use etp_linear::{LinearFailure, LinearRefusal, Which};
 use etp_reading::BodyRefusal;
 use etp_replay::ReplayRefusal;
 use etp_table::{Point, TableRefusal};
@@ -58,4 +59,32 @@ fn refusals_have_texts(rt: HostRuntime) {
     let file = LedgerRefusal::CiteMissing { cite: 2 };
     let text = file_refusal_text(alloc, &file).expect(&rt, "memory");
     assert!(rt; text.as_slice() == b"cite missing 2".as_slice());
+}
+
+#[test]
+fn refusals_of_linear_magmas_have_texts(rt: HostRuntime) {
+    let failure = |variable| LinearFailure {
+        variable,
+        left: 1,
+        right: -2,
+    };
+    let coefficient = |which, value| LinearRefusal::Coefficient { which, value };
+    let holds = |variable| LinearRefusal::HoldsFails {
+        law: 3,
+        failure: failure(variable),
+    };
+    let cases: [(LinearRefusal, &str); 5] = [
+        (
+            coefficient(Which::Modulus, 0),
+            "coefficient modulus value 0",
+        ),
+        (coefficient(Which::A, -1), "coefficient a value -1"),
+        (holds(Some(0)), "holds fails law 3 x=1 left 1 right -2"),
+        (holds(None), "holds fails law 3 zero left 1 right -2"),
+        (LinearRefusal::FailsHolds { law: 43 }, "fails holds law 43"),
+    ];
+    for (refusal, expected) in &cases {
+        let text = linear_text(rt.alloc(), refusal).expect(&rt, "memory");
+        assert!(rt; text.as_slice() == expected.as_bytes());
+    }
 }

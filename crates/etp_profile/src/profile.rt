@@ -41,6 +41,7 @@ pub fn answer_profile(
         None => refuse_name(text, line, b"no such name ", word),
         Some(Body::Table(table)) => answer_table(alloc, text, laws, table, word, line),
         Some(Body::Proof(_)) => refuse_name(text, line, b"not a table ", word),
+        Some(Body::Linear(_)) => refuse_name(text, line, b"not a table ", word),
     }
 }
 

@@ -1,7 +1,7 @@
 -- What a line is answered.
 use Rattle.std.specs.Prelude.{◌≡◌, ℕ, List, [], ◌++◌, codes, true, false, Some}
 use Rattle.std.specs.declared.option.Option.{Option}
-use Rattle.etp_theory.specs.Numbered.{law_numbered}
+use Rattle.etp_theory.specs.LawNumbers.{law_numbered}
 use Rattle.etp_io.specs.Texts.{LineText}
 use Rattle.etp_ledger.specs.Files.{File}
 use Rattle.etp_command.specs.Requests.{Query, law, number, dual, ask, files, counts, profile, not_built, Request, blank, long, bad, order, file, load, withdraw, query, asked}

@@ -25,7 +25,8 @@ pub(crate) fn answer_query(
     requires empty { text.old ≡ [] }
     requires agrees { Agrees opened.now }
     requires short { IsQueryWithin 4096 query }
-    ensures { IfOk result (λ refusal. Gives line text.new refusal (QueryReply (opened_of opened.now) (query_from query.entry))) }
+    ensures { IfOk result (λ refusal.
+        Gives line text.new refusal (QueryReply (opened_of opened.now) (query_from query.entry))) }
 {
     let laws = &opened.laws;
     let ledger = &opened.ledger;

@@ -256,7 +256,8 @@ pub fn respond_loaded(
     ensures gives { IfOk result (λ refused. (s : KnownShelf) (n : ℕ) (name : List ℕ)
         (lines : List LineText) (load : IsLoading desk.old n name lines filing)
         → IsLoaded s name lines
-        → GivesState n text.new refused (LoadReply s (opened_of load.opened) n name) (IsDesk desk.new)) }
+        → GivesState n text.new refused (LoadReply s (opened_of load.opened) n name)
+        (IsDesk desk.new)) }
     ensures laws { OnOk result (HasRightLaws desk.new) }
 {
     match &mut desk.opened {

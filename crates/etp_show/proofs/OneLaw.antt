@@ -1,11 +1,11 @@
 -- The replies that show a law are one each.
 use Rattle.std.proofs.Common.{◌≡◌, ℕ, List, sym, ◌∙◌, ap, subst, Option, None, Some, arith}
 use Rattle.etp_theory.specs.Trees.{Equation, law_dual}
-use Rattle.etp_theory.specs.Numbered.{law_numbered}
+use Rattle.etp_theory.specs.LawNumbers.{law_numbered}
 use Rattle.etp_laws.specs.Listing.{IsTheList}
 use Rattle.etp_laws.specs.LawLists.{IsNumberOf, IsTrivial}
 use Rattle.etp_laws.proofs.DualNumbers.{one_number_of}
-use Rattle.etp_laws.proofs.Trivial.{none_same}
+use Rattle.etp_laws.proofs.ReflexiveLaw.{none_same}
 use Rattle.etp_laws.proofs.Entries.{Listed-entry}
 use Rattle.etp_text.proofs.Answering.{same_law, law_refused_only}
 use Rattle.etp_text.proofs.OneRefusal.{one_law_refusal}

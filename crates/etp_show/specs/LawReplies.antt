@@ -2,7 +2,7 @@
 use Rattle.std.specs.Prelude.{◌≡◌, ◌≢◌, ℕ, ◌<◌, ◌≤◌, List, [], ◌∷◌, ◌++◌, codes, decimal, None, Some}
 use Rattle.std.specs.declared.option.Option.{Option}
 use Rattle.etp_theory.specs.Trees.{Equation, leaves, law_ops, law_dual}
-use Rattle.etp_theory.specs.Numbered.{law_numbered}
+use Rattle.etp_theory.specs.LawNumbers.{law_numbered}
 use Rattle.etp_laws.specs.LawLists.{IsNumberOf, IsTrivial}
 use Rattle.etp_text.specs.Written.{written_law}
 use Rattle.etp_text.specs.Grammar.{SpellsLaw}

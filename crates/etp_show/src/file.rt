@@ -33,12 +33,17 @@ fn append_kind(text: &mut Text, body: &Body) -> Result<(), AllocError>
             text.append(b"table ")?;
             append_counts(text, &table.claims)
         }
+        Body::Linear(linear) => {
+            text.append(b"linear ")?;
+            append_counts(text, &linear.claims)
+        }
     }
 }
 
 // Appends the line of a file.
 fn append_file(text: &mut Text, name: &[u8], body: &Body) -> Result<(), AllocError>
-    ensures { OnOk result (text.new ≡ text.old ++ (name.now ++ codes " " ++ kind_text (body_of body.now) ++ 10 ∷ [])) }
+    ensures { OnOk result (text.new ≡ text.old
+        ++ (name.now ++ codes " " ++ kind_text (body_of body.now) ++ 10 ∷ [])) }
 {
     text.append(name)?;
     text.append(b" ")?;
@@ -49,7 +54,8 @@ fn append_file(text: &mut Text, name: &[u8], body: &Body) -> Result<(), AllocErr
 /// Writes a line for each file that stands, and how many there are.
 pub fn answer_files(text: &mut Text, ledger: &Ledger, line: u64) -> Result<bool, AllocError>
     requires { text.old ≡ [] }
-    ensures { IfOk result (λ refusal. Gives line text.new refusal (λ reply. reply ≡ answered (files_text ledger.now.files))) }
+    ensures { IfOk result (λ refusal.
+        Gives line text.new refusal (λ reply. reply ≡ answered (files_text ledger.now.files))) }
 {
     let count = ledger.count();
     'files: for at in 0..count {

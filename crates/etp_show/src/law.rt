@@ -1,7 +1,7 @@
 // Replies that show a law by its number.
 ghost use Rattle.std.specs.Prelude.{◌≡◌, ◌≤◌, ◌++◌, [], IfOk, OnOk, true, false, codes, decimal, length, None};
 ghost use Rattle.etp_theory.specs.Trees.{leaves};
-ghost use Rattle.etp_theory.specs.Numbered.{law_numbered};
+ghost use Rattle.etp_theory.specs.LawNumbers.{law_numbered};
 ghost use Rattle.etp_term.specs.Terms.{tree_of};
 ghost use Rattle.etp_term.specs.Laws.{equation_of};
 ghost use Rattle.etp_text.specs.Refusals.{side_limit};
@@ -28,7 +28,8 @@ pub fn append_law_line(text: &mut Text, n: u32, law: &Law) -> Result<(), AllocEr
 /// Writes law n, or that there is none.
 pub fn answer_law(text: &mut Text, laws: &Laws, n: u32, line: u64) -> Result<bool, AllocError>
     requires { text.old ≡ [] }
-    ensures { IfOk result (λ refusal. (text.new ≡ reply_text line (law_reply n (law_numbered laws.now.equations n)))
+    ensures { IfOk result (λ refusal.
+        (text.new ≡ reply_text line (law_reply n (law_numbered laws.now.equations n)))
         × (refusal ≡ is_refusal (law_reply n (law_numbered laws.now.equations n)))) }
 {
     match laws.law(n) {
@@ -43,7 +44,9 @@ pub fn answer_law(text: &mut Text, laws: &Laws, n: u32, line: u64) -> Result<boo
 /// Writes the law that is the same as the dual of law n.
 pub fn answer_dual(text: &mut Text, laws: &Laws, n: u32, line: u64) -> Result<bool, AllocError>
     requires { text.old ≡ [] }
-    ensures { IfOk result (λ refusal. Gives line text.new refusal (DualReply laws.now.equations n (law_numbered laws.now.equations n))) }
+    ensures { IfOk result (λ refusal.
+        Gives line text.new refusal (DualReply laws.now.equations n
+        (law_numbered laws.now.equations n))) }
 {
     match laws.dual(n) {
         Some(m) => answer_law(text, laws, m, line),
@@ -56,7 +59,9 @@ fn answer_numbered(text: &mut Text, laws: &Laws, law: &Law, line: u64) -> Result
     requires empty { text.old ≡ [] }
     requires left { leaves (tree_of law.now.left) ≤ side_limit }
     requires right { leaves (tree_of law.now.right) ≤ side_limit }
-    ensures { IfOk result (λ refusal. Gives line text.new refusal (NumberedReply laws.now.order laws.now.equations (equation_of law.now))) }
+    ensures { IfOk result (λ refusal.
+        Gives line text.new refusal (NumberedReply laws.now.order laws.now.equations
+        (equation_of law.now))) }
 {
     match laws.number(law) {
         Numbered::Is(n) => answer_law(text, laws, n, line),
@@ -75,7 +80,8 @@ pub fn answer_number(
 ) -> Result<bool, AllocError>
     requires empty { text.old ≡ [] }
     requires short { length spelling.now ≤ 4096 }
-    ensures { IfOk result (λ refusal. Gives line text.new refusal (NumberReply laws.now.order laws.now.equations spelling.now)) }
+    ensures { IfOk result (λ refusal.
+        Gives line text.new refusal (NumberReply laws.now.order laws.now.equations spelling.now)) }
 {
     match read_law(alloc, spelling) {
         Ok(law) => answer_numbered(text, laws, &law, line),

@@ -2,7 +2,7 @@
 use Rattle.std.proofs.Common.{◌≡◌, ℕ, zero, suc, ◌+◌, inl, inr, List, ◌++◌, length, refl, sym, ◌∙◌, ap, Bool}
 use Rattle.std.specs.Prelude.{codes, decimal}
 use Rattle.etp_theory.specs.Reach.{Fact}
-use Rattle.etp_theory.specs.Numbered.{IsLaw}
+use Rattle.etp_theory.specs.LawNumbers.{IsLaw}
 use Rattle.etp_closure.specs.Answers.{Says}
 use Rattle.etp_closure.specs.declared.facts.Answer.{Answer}
 use Rattle.etp_closure.specs.declared.facts.Answer.TheVariants.{Implied, Refuted, Unsettled}

@@ -4,7 +4,7 @@ use Rattle.std.specs.Prelude.{codes, decimal}
 use Rattle.etp_theory.specs.Trees.{Equation}
 use Rattle.etp_theory.specs.Reach.{Fact}
 use Rattle.etp_laws.specs.Listing.{IsTheList}
-use Rattle.etp_theory.specs.Numbered.{IsLaw}
+use Rattle.etp_theory.specs.LawNumbers.{IsLaw}
 use Rattle.etp_closure.specs.Closures.{Known, StandsFor}
 use Rattle.etp_closure.specs.Answers.{answer_of, Says}
 use Rattle.etp_closure.specs.declared.facts.Answer.{Answer}

@@ -58,7 +58,8 @@ pub fn answer_pair(
 }
 
 fn append_counts(text: &mut Text, counts: Counts) -> Result<(), AllocError>
-    ensures { OnOk result (text.new ≡ text.old ++ counts_line counts.implied counts.refuted counts.unsettled) }
+    ensures { OnOk result (text.new ≡ text.old
+        ++ counts_line counts.implied counts.refuted counts.unsettled) }
 {
     text.append(b"implied ")?;
     text.append_number(counts.implied)?;

@@ -14,3 +14,7 @@ returns-in-None c = IfOk-then c.refuse_name.result _ _ (λ refusal h. gives-refu
 pub returns-in-Some-Proof : goal.returns-in-Some-Proof
 returns-in-Some-Proof c = IfOk-then c.refuse_name-in-Some-Proof.result _ _ (λ refusal h. gives-refused c.args.line c.refuse_name-in-Some-Proof.new.text _ refusal _
     (other_kind _ (c.in_ok-is_name.ensures.0 c.if-not-branch.false) (sym c.in-Some-Proof.ensures.body) (rw c.in-Some-Proof.field-0-is refl) refl) h) c.refuse_name-in-Some-Proof.ensures
+
+pub returns-in-Some-Linear : goal.returns-in-Some-Linear
+returns-in-Some-Linear c = IfOk-then c.refuse_name-in-Some-Linear.result _ _ (λ refusal h. gives-refused c.args.line c.refuse_name-in-Some-Linear.new.text _ refusal _
+    (other_kind _ (c.in_ok-is_name.ensures.0 c.if-not-branch.false) (sym c.in-Some-Linear.ensures.body) (rw c.in-Some-Linear.field-0-is refl) refl) h) c.refuse_name-in-Some-Linear.ensures
