@@ -2,7 +2,7 @@
 use Rattle.std.proofs.Common.{◌≡◌, ℕ, List, [], refl, Option, None, Some, Bool, true, false, arith, ◌⊎◌, inl, inr}
 use Rattle.std.specs.Option.{IfSome}
 use Rattle.etp_io.specs.Causes.{Rose}
-use Rattle.etp_io.proofs.Laws.{Appends-none, IsPrefix-all, Loses-none}
+use Rattle.etp_io.proofs.CallLemmas.{Appends-none, IsPrefix-all, Loses-none}
 use Rattle.etp_session.specs.Protocols.{Protocol}
 use Rattle.etp_session.specs.Streams.{Streams}
 use Rattle.etp_session.specs.Sessions.{Begins, in_lines, items_of}

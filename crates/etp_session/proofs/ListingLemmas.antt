@@ -5,9 +5,9 @@ use Rattle.std.proofs.lemmas.Grind.{common_steps}
 use Rattle.std.proofs.lemmas.Option.{slice_get_cases}
 use Rattle.std.specs.Io.KnownBytes.{Appends}
 use Rattle.etp_io.specs.Stream.{IsPrefix, AppendsPrefix}
-use Rattle.etp_io.proofs.Laws.{Appends-then, Appends-none, IsPrefix-none, IsPrefix-append, IsPrefix-all}
+use Rattle.etp_io.proofs.CallLemmas.{Appends-then, Appends-none, IsPrefix-none, IsPrefix-append, IsPrefix-all}
 use Rattle.etp_theory.specs.Trees.{Equation}
-use Rattle.etp_theory.specs.Numbered.{law_numbered}
+use Rattle.etp_theory.specs.LawNumbers.{law_numbered}
 use Rattle.etp_laws.proofs.Entries.{entry_after}
 use Rattle.etp_show.specs.LawReplies.{law_line}
 use Rattle.etp_session.specs.Listings.{laws_from, laws_text, MovesFront}

@@ -2,7 +2,7 @@
 use Rattle.std.proofs.Common.{◌≡◌, ℕ, ◌+◌, List, ◌++◌, length, take, ◌∙◌, ap, append-nil}
 use Rattle.std.proofs.Math.Seq.{take-append-add}
 use Rattle.etp_io.specs.Texts.{NoNewline, to_last_newline}
-use Rattle.etp_io.proofs.Laws.{to_last_newline-append, to_last_newline-plain}
+use Rattle.etp_io.proofs.CallLemmas.{to_last_newline-append, to_last_newline-plain}
 
 -- two parts that end with a newline make one
 pub to_last_newline-both : (p q : List ℕ) → to_last_newline p ≡ p → to_last_newline q ≡ q → to_last_newline (p ++ q) ≡ p ++ q

@@ -11,7 +11,7 @@ use Rattle.etp_io.specs.Reads.{NoneBefore}
 use Rattle.etp_io.specs.Answers.{Fits, GivesLines, PartGives, to_come, says}
 use Rattle.etp_io.specs.declared.lines.Next.{Next}
 use Rattle.etp_io.specs.declared.lines.Next.TheVariants.{End}
-use Rattle.etp_io.proofs.Laws.{Appends-then, Appends-none, IsPrefix-all, Loses-none, lines_of-append}
+use Rattle.etp_io.proofs.CallLemmas.{Appends-then, Appends-none, IsPrefix-all, Loses-none, lines_of-append}
 use Rattle.etp_session.specs.Protocols.{Protocol}
 use Rattle.etp_session.specs.Sessions.{Item, Session, IsWholeSession, AnswersLines, StopsAtLoad, ReachesShelf, BeginsInLines, Begins, in_lines, at_end, items_from, items_of}
 use Rattle.etp_session.specs.Endings.{line_text, WritesNothing}

@@ -12,7 +12,7 @@ use Rattle.etp_io.specs.Shelves.{left_at, Lacks}
 use Rattle.etp_io.specs.Answers.{FitsAt, GivesLines, PartGives, to_come, says}
 use Rattle.etp_io.specs.declared.lines.Next.{Next}
 use Rattle.etp_io.specs.declared.lines.Next.TheVariants.{End}
-use Rattle.etp_io.proofs.Laws.{Loses-none, lines_of-append}
+use Rattle.etp_io.proofs.CallLemmas.{Loses-none, lines_of-append}
 use Rattle.etp_reading.specs.Reading.{given_text}
 use Rattle.etp_reply.specs.Shelves.{KnownShelf, HasLines, IsLoaded}
 use Rattle.etp_session.specs.Ends.{Takes}

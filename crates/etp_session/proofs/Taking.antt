@@ -8,7 +8,7 @@ use Rattle.etp_io.specs.declared.lines.Next.TheVariants.{Line, Long, End}
 use Rattle.etp_io.specs.Stream.{Loses}
 use Rattle.etp_io.specs.Counts.{RisesBy}
 use Rattle.etp_io.specs.Answers.{says}
-use Rattle.etp_io.proofs.Laws.{Loses-then}
+use Rattle.etp_io.proofs.CallLemmas.{Loses-then}
 use Rattle.etp_session.specs.Endings.{line_text}
 use Rattle.etp_session.specs.Ends.{Takes}
 

@@ -1,7 +1,7 @@
 -- A text that was written, or a prefix of it, by the status.
 use Rattle.std.proofs.Common.{ℕ, List, [], refl, Option, inl, inr}
 use Rattle.etp_io.specs.Stream.{AppendsPrefix}
-use Rattle.etp_io.proofs.Laws.{Appends-none, IsPrefix-none}
+use Rattle.etp_io.proofs.CallLemmas.{Appends-none, IsPrefix-none}
 use Rattle.etp_session.specs.Writing.{WritesText}
 
 pub writes-no_write : (text : List ℕ) (took0 took : Option (List ℕ)) → AppendsPrefix took0 took text → WritesText text took0 took 4

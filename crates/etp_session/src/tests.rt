@@ -182,7 +182,23 @@ fn wrong_files_are_refused_for_their_first_offence(rt: HostRuntime) {
         ("proof 4 3\nlemma x * y", "goal differs found trivial"),
         ("# c\nproof 4 3\nlemma x", "goal differs found 1"),
         ("proof2 4 3\ncite zz\nlemma x", "cite missing 1"),
-        ("\nlinear int 1 1 0", "not built"),
+        ("\nrules 1 1 1", "not built"),
+        (
+            "linear mod 0 0 0 0\nholds 1\nfails 2",
+            "coefficient modulus value 0",
+        ),
+        (
+            "linear mod 3 3 0 0\nholds 3\nfails 43",
+            "coefficient a value 3",
+        ),
+        (
+            "linear int 1 1 0\nholds 3\nfails 4",
+            "holds fails law 3 x=1 left 1 right 2",
+        ),
+        (
+            "linear mod 1 0 0 0\nholds 4\nfails 43",
+            "fails holds law 43",
+        ),
         (
             "table 2\nrow 0 0\nrow 1 1\nholds 5\nfails 43",
             "holds fails law 5 x=0 y=1 left 0 right 1",
@@ -214,6 +230,16 @@ fn a_table_refutes_and_its_refutation_moves_along_proofs(rt: HostRuntime) {
     let output =
         "accepted t1: refutes 1 1\nimplied 4694 refuted 2 open 22028940\naccepted p1: implies 4 3\nimplied 4696 refuted 3 open 22028937\n3 43 refuted\nwithdrawn p1\nimplied 4694 refuted 2 open 22028940\n3 43 open\nt1 table 1 1\nfiles 1\n";
     let case = plain(input, output, 0);
+    assert!(rt; is_right(rt.alloc(), &case).expect(&rt, "memory"));
+}
+
+#[test]
+fn a_linear_magma_refutes(rt: HostRuntime) {
+    let input =
+        "file l\nlinear mod 3 2 2 0\nholds 3 43\nfails 4512\nend\nask 43 4512\nprofile l\nfile m\nlinear int 1 1 0\nholds 43 4512\nfails 3\nend\nfiles\n";
+    let output =
+        "accepted l: refutes 2 1\n43 4512 refuted\nrefused 7: not a table l\naccepted m: refutes 2 1\nl linear 2 1\nm linear 2 1\nfiles 2\n";
+    let case = plain(input, output, 1);
     assert!(rt; is_right(rt.alloc(), &case).expect(&rt, "memory"));
 }
 
@@ -337,7 +363,7 @@ fn files_are_loaded_from_the_shelf(rt: HostRuntime) {
         ("cut", "proof 4 3\r\n\nlemma x\nstep 0 > . x * x"),
         ("closed", "proof 4 3\nlemma x\nstep 0 > . x * x\nend\n"),
         ("empty", ""),
-        ("t", "# no table\nlinear int 1 1 0\n"),
+        ("t", "# no table\nrules 1 1 1\n"),
     ];
     let cases = [
         plain(
