@@ -5,15 +5,13 @@ use Rattle.std.specs.Int.{bit_at, bit_not, w64, trailing_zeros}
 use Rattle.std.proofs.lemmas.List.{length-set, get_or-take, get_or-drop}
 use Rattle.std.proofs.lemmas.Nat.{same_from_place, and_le_l, row_fits}
 use Rattle.std.proofs.lemmas.Nat.Bits.{bit_at_and, bit_at_not, bit_at_or, bit_at-lt, bit_at-zero, bit_at_above, bit_at-trailing_zeros, bit_at_clear_same, bit_at_clear_other}
-use Rattle.std.proofs.lemmas.Bool.{cases_lt, cases_eq, cases_order, eq-eqb, ne_eqb, lt-ltb, le-ltb, and_right, or_right, false_from_ne_true}
+use Rattle.std.proofs.lemmas.Bool.{cases_lt, cases_eq, eq-eqb, ne_eqb, lt-ltb, le-ltb, and_right, or_right, false_from_ne_true}
+use Rattle.std.proofs.Math.Bool.{and-true}
 use Rattle.etp_bits.specs.Words.{lit, JoinsWords, JoinsBits, LitInOne, IsLaidOut, bits_of}
 use Rattle.etp_bits.proofs.Lines.{bits_and_not}
 use Rattle.etp_bits.specs.Bits.{Bits, bit}
 use Rattle.etp_bits.proofs.Rows.{joined_lit, either_bit, bit_within, bit_below, bit_past, bit_in_words, needed_lit}
-
-or_none : (a b : Bool) → b ≡ false → a ≡ (a || b)
-or_none true b h = refl
-or_none false b h = sym h
+use Rattle.etp_bits.proofs.Tests.{or_none, nat_lt-more}
 
 or_or : (a b c d : Bool) → d ≡ (b || c) → ((a || b) || c) ≡ (a || d)
 or_or true b c d h = refl
@@ -160,11 +158,7 @@ taken_none rows group row =
 
 pub taken_all : (rows left group row : ℕ) → left ≡ 0 → taken rows left group row ≡ (nat_eq (row / 64) group && nat_eq (bit_at rows (row % 64)) 1)
 taken_all rows left group row none =
-    rw (none, bit_at-zero (row % 64)) (ap (λ b. nat_eq (row / 64) group && b) (keep (nat_eq (bit_at rows (row % 64)) 1)))
-  where
-    keep : (b : Bool) → (b && true) ≡ b
-    keep true = refl
-    keep false = refl
+    rw (none, bit_at-zero (row % 64)) (ap (λ b. nat_eq (row / 64) group && b) (and-true (nat_eq (bit_at rows (row % 64)) 1)))
 
 spread_or : (a b l : Bool) → ((a || b) && l) ≡ ((a && l) || (b && l))
 spread_or true b true = refl
@@ -196,14 +190,6 @@ group_all old new stride rows left group line none joins =
 
 -- ---- the groups, and the places of a line
 
-below_more : (x n : ℕ) → nat_lt x (n + 1) ≡ (nat_lt x n || nat_eq x n)
-below_more x n =
-    elim (cases_order x n) [
-      | inl same ↦ rw (lt-ltb x (n + 1) (omega arith), eq-eqb x n same) (sym (or_right (nat_lt x n) true refl))
-      | inr (inl below) ↦ rw (lt-ltb x (n + 1) (omega arith), lt-ltb x n below) refl
-      | inr (inr above) ↦ rw (le-ltb x (n + 1) (omega arith), le-ltb x n (omega arith), ne_eqb x n (λ e. (omega (arith, e)))) refl
-    ]
-
 -- the bits of one word more
 pub bits_more : (words : List ℕ) (place column : ℕ)
     → (nat_lt (column / 64) (place + 1) && lit words 0 column)
@@ -211,7 +197,7 @@ pub bits_more : (words : List ℕ) (place column : ℕ)
 unfolding lit
 bits_more words place column =
     let first : 0 + column / 64 ≡ column / 64 = omega arith in
-    rw (below_more (column / 64) place, first)
+    rw (nat_lt-more (column / 64) place, first)
     (elim (cases_eq (column / 64) place) [
       | inl same ↦ rw (same) (spread_or (nat_lt place place) (nat_eq place place) (nat_eq (bit_at (slice_index words place) (column % 64)) 1))
       | inr differs ↦
@@ -290,7 +276,7 @@ pub without_more : (other : List ℕ) (from without place column : ℕ)
     || (nat_eq (column / 64) place && nat_eq (bit_at (bit_and (slice_index other (from + place)) (bit_not w64 (slice_index other (without + place)))) (column % 64)) 1))
 unfolding lit
 without_more other from without place column small =
-    rw (below_more (column / 64) place)
+    rw (nat_lt-more (column / 64) place)
     (elim (cases_eq (column / 64) place) [
       | inl same ↦
           let one = slice_index other (from + place) in

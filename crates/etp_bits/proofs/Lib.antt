@@ -1,3 +1,4 @@
+pub mod Tests
 pub mod Counting
 mod Lines
 mod Rows

@@ -13,6 +13,7 @@ use Rattle.etp_bits.specs.Bits.{Bits, bit, IsBlank, Resizes}
 use Rattle.etp_bits.specs.Counts.{count_below}
 use Rattle.etp_bits.specs.Words.{lit, bits_of, IsLaidOut, JoinsWords, Spreads, Regrows}
 use Rattle.etp_bits.proofs.Counting.{count_below-past, count_below-same}
+use Rattle.etp_bits.proofs.Tests.{or_none}
 
 get_made : {X : Type 0} (f : ℕ → X) (n i : ℕ) (d : X) → get_or (map f (range_with_len 0 n)) i d ≡ (if nat_lt i n then f i else d)
 get_made f n i d =
@@ -91,10 +92,6 @@ either_bit (suc zero) (suc zero) h k = refl
 either_bit zero (suc (suc b)) h k = absurd (omega arith)
 either_bit (suc zero) (suc (suc b)) h k = absurd (omega arith)
 either_bit (suc (suc a)) b h k = absurd (omega arith)
-
-or_none : (a b : Bool) → b ≡ false → a ≡ (a || b)
-or_none true b h = refl
-or_none false b h = sym h
 
 -- the bits of the words after a row was joined
 pub joined_lit : (old new other : List ℕ) (stride into from count row column : ℕ)

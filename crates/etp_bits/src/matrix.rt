@@ -220,7 +220,9 @@ impl Matrix {
         requires without_in { without < other.now.rows }
         requires narrow { other.now.columns ≤ self.old.columns }
         ensures sizes { SameSizes self.old self.new }
-        ensures bits { (r c : ℕ) → bit self.new r c ≡ (bit self.old r c || (nat_eq r into && (bit other.now from c && not (bit other.now without c)))) }
+        ensures bits { (r c : ℕ) → bit self.new r c
+            ≡ (bit self.old r c || (nat_eq r into
+            && (bit other.now from c && not (bit other.now without c)))) }
     {
         let count = words_for(other.columns);
         join_without(
@@ -242,7 +244,8 @@ impl Matrix {
         requires narrow { other.now.columns ≤ self.old.columns }
         requires tall { other.now.columns ≤ self.old.rows }
         ensures sizes { SameSizes self.old self.new }
-        ensures bits { (r c : ℕ) → bit self.new r c ≡ (bit self.old r c || (bit other.now marked r && bit other.now line c)) }
+        ensures bits { (r c : ℕ) → bit self.new r c
+            ≡ (bit self.old r c || (bit other.now marked r && bit other.now line c)) }
     {
         let stride = self.stride;
         join_to_rows(&mut self.words, stride, other.row(marked), other.row(line));
@@ -297,7 +300,8 @@ impl Matrix {
         requires row_in { row < self.now.rows }
         requires other_row_in { other_row < other.now.rows }
         requires wide { self.now.columns ≤ other.now.columns }
-        ensures { result ≡ count_below (λ column. bit self.now row column && not (bit other.now other_row column)) self.now.columns }
+        ensures { result ≡ count_below (λ column.
+            bit self.now row column && not (bit other.now other_row column)) self.now.columns }
     {
         let count = words_for(self.columns);
         count_without(

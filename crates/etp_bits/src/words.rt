@@ -74,7 +74,9 @@ pub(crate) fn join_without(
     requires narrow { count ≤ stride }
     requires from_fits { from + count ≤ length other.now }
     requires without_fits { without + count ≤ length other.now }
-    ensures { JoinsBits words.old words.new stride (λ row column. nat_eq row into && (nat_lt (column / 64) count && (lit other.now from column && not (lit other.now without column)))) }
+    ensures { JoinsBits words.old words.new stride
+        (λ row column. nat_eq row into && (nat_lt (column / 64) count
+        && (lit other.now from column && not (lit other.now without column)))) }
 {
     for place in 0..count {
         words[into * stride + place] |= other[from + place] & !other[without + place];
@@ -119,7 +121,9 @@ fn join_group(words: &mut [u64], stride: usize, group: usize, rows: u64, line: &
     requires narrow { length line.now ≤ stride }
     requires few { group < 2 ^ 26 }
     requires rows_in { (i : ℕ) → bit_at rows i ≡ 1 → (64 * group + i) * stride + stride ≤ length words.old }
-    ensures { JoinsBits words.old words.new stride (λ row column. (nat_eq (row / 64) group && nat_eq (bit_at rows (row % 64)) 1) && (nat_lt (column / 64) (length line.now) && lit line.now 0 column)) }
+    ensures { JoinsBits words.old words.new stride
+        (λ row column. (nat_eq (row / 64) group && nat_eq (bit_at rows (row % 64)) 1)
+        && (nat_lt (column / 64) (length line.now) && lit line.now 0 column)) }
 {
     let mut left = rows;
     while left != 0 {
@@ -134,8 +138,11 @@ fn join_group(words: &mut [u64], stride: usize, group: usize, rows: u64, line: &
 fn join_rows(words: &mut [u64], stride: usize, marks: &[u64], line: &[u64])
     requires narrow { length line.now ≤ stride }
     requires few { length marks.now ≤ 2 ^ 26 }
-    requires rows_in { (row : ℕ) → row < 64 * length marks.now → IsTrue (lit marks.now 0 row) → row * stride + stride ≤ length words.old }
-    ensures { JoinsBits words.old words.new stride (λ row column. (nat_lt (row / 64) (length marks.now) && lit marks.now 0 row) && (nat_lt (column / 64) (length line.now) && lit line.now 0 column)) }
+    requires rows_in { (row : ℕ) → row < 64 * length marks.now → IsTrue (lit marks.now 0 row)
+        → row * stride + stride ≤ length words.old }
+    ensures { JoinsBits words.old words.new stride
+        (λ row column. (nat_lt (row / 64) (length marks.now) && lit marks.now 0 row)
+        && (nat_lt (column / 64) (length line.now) && lit line.now 0 column)) }
 {
     for group in 0..marks.len() {
         join_group(words, stride, group, marks[group], line);
@@ -147,7 +154,9 @@ fn join_place(words: &mut [u64], stride: usize, group: usize, rows: u64, place: 
     requires within { place < stride }
     requires few { group < 2 ^ 26 }
     requires rows_in { (i : ℕ) → bit_at rows i ≡ 1 → (64 * group + i) * stride + stride ≤ length words.old }
-    ensures { JoinsBits words.old words.new stride (λ row column. (nat_eq (row / 64) group && nat_eq (bit_at rows (row % 64)) 1) && (nat_eq (column / 64) place && nat_eq (bit_at word (column % 64)) 1)) }
+    ensures { JoinsBits words.old words.new stride
+        (λ row column. (nat_eq (row / 64) group && nat_eq (bit_at rows (row % 64)) 1)
+        && (nat_eq (column / 64) place && nat_eq (bit_at word (column % 64)) 1)) }
 {
     let mut left = rows;
     while left != 0 {
@@ -162,8 +171,11 @@ fn join_place(words: &mut [u64], stride: usize, group: usize, rows: u64, place: 
 fn join_places(words: &mut [u64], stride: usize, marks: &[u64], place: usize, word: u64)
     requires within { place < stride }
     requires few { length marks.now ≤ 2 ^ 26 }
-    requires rows_in { (row : ℕ) → row < 64 * length marks.now → IsTrue (lit marks.now 0 row) → row * stride + stride ≤ length words.old }
-    ensures { JoinsBits words.old words.new stride (λ row column. (nat_lt (row / 64) (length marks.now) && lit marks.now 0 row) && (nat_eq (column / 64) place && nat_eq (bit_at word (column % 64)) 1)) }
+    requires rows_in { (row : ℕ) → row < 64 * length marks.now → IsTrue (lit marks.now 0 row)
+        → row * stride + stride ≤ length words.old }
+    ensures { JoinsBits words.old words.new stride
+        (λ row column. (nat_lt (row / 64) (length marks.now) && lit marks.now 0 row)
+        && (nat_eq (column / 64) place && nat_eq (bit_at word (column % 64)) 1)) }
 {
     for group in 0..marks.len() {
         join_place(words, stride, group, marks[group], place, word);
@@ -174,8 +186,11 @@ fn join_places(words: &mut [u64], stride: usize, marks: &[u64], place: usize, wo
 fn join_some(words: &mut [u64], stride: usize, marks: &[u64], line: &[u64])
     requires narrow { length line.now ≤ stride }
     requires few { length marks.now ≤ 2 ^ 26 }
-    requires rows_in { (row : ℕ) → row < 64 * length marks.now → IsTrue (lit marks.now 0 row) → row * stride + stride ≤ length words.old }
-    ensures { JoinsBits words.old words.new stride (λ row column. (nat_lt (row / 64) (length marks.now) && lit marks.now 0 row) && (nat_lt (column / 64) (length line.now) && lit line.now 0 column)) }
+    requires rows_in { (row : ℕ) → row < 64 * length marks.now → IsTrue (lit marks.now 0 row)
+        → row * stride + stride ≤ length words.old }
+    ensures { JoinsBits words.old words.new stride
+        (λ row column. (nat_lt (row / 64) (length marks.now) && lit marks.now 0 row)
+        && (nat_lt (column / 64) (length line.now) && lit line.now 0 column)) }
 {
     for place in 0..line.len() {
         if line[place] != 0 {
@@ -191,8 +206,11 @@ const FEW_WORDS: usize = 8;
 pub(crate) fn join_to_rows(words: &mut [u64], stride: usize, marks: &[u64], line: &[u64])
     requires narrow { length line.now ≤ stride }
     requires few { length marks.now ≤ 2 ^ 26 }
-    requires rows_in { (row : ℕ) → row < 64 * length marks.now → IsTrue (lit marks.now 0 row) → row * stride + stride ≤ length words.old }
-    ensures { JoinsBits words.old words.new stride (λ row column. (nat_lt (row / 64) (length marks.now) && lit marks.now 0 row) && (nat_lt (column / 64) (length line.now) && lit line.now 0 column)) }
+    requires rows_in { (row : ℕ) → row < 64 * length marks.now → IsTrue (lit marks.now 0 row)
+        → row * stride + stride ≤ length words.old }
+    ensures { JoinsBits words.old words.new stride
+        (λ row column. (nat_lt (row / 64) (length marks.now) && lit marks.now 0 row)
+        && (nat_lt (column / 64) (length line.now) && lit line.now 0 column)) }
 {
     if count_some(line) <= FEW_WORDS {
         join_some(words, stride, marks, line);

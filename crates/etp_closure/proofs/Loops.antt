@@ -1,6 +1,8 @@
 -- What the loops over rows keep.
 use Rattle.std.proofs.Common.{◌≡◌, ℕ, ◌+◌, ◌≤◌, Bool, true, false, ◌&&◌, ◌||◌, nat_eq, nat_lt, nat_le, refl, sym, ◌∙◌, inl, inr, arith}
-use Rattle.std.proofs.lemmas.Bool.{cases_eq, cases_order, eq-eqb, ne_eqb, lt-ltb, le-ltb, le-leb, or_right, and_right}
+use Rattle.std.proofs.lemmas.Bool.{cases_eq, eq-eqb, ne_eqb, lt-ltb, le-leb, or_right, and_right}
+use Rattle.std.proofs.Math.Bool.{or-false}
+use Rattle.etp_bits.proofs.Tests.{nat_lt-more}
 
 -- the marked rows below n have the line joined to them
 abbrev pub JoinedBelow : (ℕ → ℕ → Bool) → (ℕ → ℕ → Bool) → (ℕ → Bool) → (ℕ → Bool) → ℕ → Type 0
@@ -9,18 +11,6 @@ JoinedBelow old now marked line n = (r c : ℕ) → now r c ≡ (old r c || ((na
 -- the rows below n that pass are marked in one row
 abbrev pub MarkedBelow : (ℕ → ℕ → Bool) → (ℕ → ℕ → Bool) → ℕ → (ℕ → Bool) → ℕ → Type 0
 MarkedBelow old now into passes n = (r c : ℕ) → now r c ≡ (old r c || (nat_eq r into && (nat_lt c n && passes c)))
-
-lt_more : (x n : ℕ) → nat_lt x (n + 1) ≡ (nat_lt x n || nat_eq x n)
-lt_more x n =
-    elim (cases_order x n) [
-      | inl same ↦ rw (lt-ltb x (n + 1) (omega arith), eq-eqb x n same) (sym (or_right (nat_lt x n) true refl))
-      | inr (inl below) ↦ rw (lt-ltb x (n + 1) (omega arith), lt-ltb x n below) refl
-      | inr (inr above) ↦ rw (le-ltb x (n + 1) (omega arith), le-ltb x n (omega arith), ne_eqb x n (λ e. (omega (arith, e)))) refl
-    ]
-
-or_false : (x : Bool) → (x || false) ≡ x
-or_false true = refl
-or_false false = refl
 
 -- one more law reaches itself
 pub itself_more : (old now new : ℕ → ℕ → Bool) (first slot : ℕ) → first ≤ slot
@@ -37,8 +27,8 @@ itself_more old now new first slot from before step r c =
                 (or_right (now r c) true refl ∙ sym (or_right (old r c) true refl))
             | inr apart ↦
                 let differs = ne_eqb r c (λ e. apart (sym e ∙ here)) in
-                rw (ne_eqb c slot apart, and_right (nat_eq r slot) false refl, or_false (now r c), before r c, differs) refl
+                rw (ne_eqb c slot apart, and_right (nat_eq r slot) false refl, or-false (now r c), before r c, differs) refl
           ]
       | inr apart ↦
-          rw (ne_eqb r slot apart, or_false (now r c), before r c, lt_more r slot, ne_eqb r slot apart, or_false (nat_lt r slot)) refl
+          rw (ne_eqb r slot apart, or-false (now r c), before r c, nat_lt-more r slot, ne_eqb r slot apart, or-false (nat_lt r slot)) refl
     ]

@@ -1,17 +1,15 @@
 -- Marks for the laws of a list.
-use Rattle.std.proofs.Common.{◌≡◌, ◌≢◌, ℕ, zero, suc, ◌+◌, ◌<◌, Bool, true, false, ◌&&◌, ◌||◌, nat_eq, List, [], ◌∷◌, length, get_or, take, Option, Some, None, unwrap_or, refl, sym, ap, ◌∙◌, ◌⊎◌, inl, inr, arith}
+use Rattle.std.proofs.Common.{◌≡◌, ◌≢◌, ℕ, zero, suc, ◌+◌, ◌<◌, Bool, true, false, ◌&&◌, ◌||◌, nat_eq, List, [], ◌∷◌, length, get_or, take, Option, Some, None, refl, sym, ap, ◌∙◌, ◌⊎◌, inl, inr, arith}
 use Rattle.std.specs.List.{list_any}
 use Rattle.std.proofs.lemmas.Bool.{or_cases, or_left, or_right, eq-eqb, ne_eqb}
+use Rattle.std.proofs.Math.Bool.{or-false}
+use Rattle.std.proofs.lemmas.Option.{same_Some}
 use Rattle.etp_closure.specs.Tables.{IsClosed, MarksUncovered, MarksLaw, was_marked, was_reached, is_found, is_added, reached_from}
 
 -- one law more of the list
 pub any_more : (p : ℕ → Bool) (xs : List ℕ) (n : ℕ) → n < length xs → list_any p (take (n + 1) xs) ≡ (list_any p (take n xs) || p (get_or xs n 0))
 any_more p [] n h = absurd (omega arith)
-any_more p (x ∷ xs) zero h = last (p x)
-  where
-    last : (b : Bool) → (b || false) ≡ b
-    last true = refl
-    last false = refl
+any_more p (x ∷ xs) zero h = or-false (p x)
 any_more p (x ∷ xs) (suc n) h =
     let whole : suc n + 1 ≡ suc (n + 1) = omega arith in
     rw whole (ap (λ b. p x || b) (any_more p xs n (omega arith)) ∙ both (p x) _ _)
@@ -142,10 +140,7 @@ found_more marks new line r c s last next (was_marked on same stays) known = λ 
 found_more marks new line r c s last next (was_reached on same stays) known = λ t at. known t (sym stays ∙ at)
 found_more marks new line r c s last next (is_found all same (inr stays)) known = λ t at. known t (sym stays ∙ at)
 found_more marks new line r c s last next (is_found all same (inl is)) known =
-    λ t at k on. (let equal : s ≡ t = some_same s t (sym is ∙ at) in ap (λ n. c n k) (sym equal) ∙ all k on)
-  where
-    some_same : (a b : ℕ) → Some a ≡ Some b → a ≡ b
-    some_same a b e = ap (λ (o : Option ℕ). unwrap_or o 0) e
+    λ t at k on. (let equal : s ≡ t = same_Some s t (sym is ∙ at) in ap (λ n. c n k) (sym equal) ∙ all k on)
 found_more marks new line r c s last next (is_added joined stays) known = λ t at. known t (sym stays ∙ at)
 
 same_marks : (marks new line : ℕ → Bool) (c : ℕ → ℕ → Bool) (named : ℕ → Bool) → ((k : ℕ) → new k ≡ marks k)
@@ -187,8 +182,4 @@ row_into old new into line joined c = joined into c ∙ rw (eq-eqb into into ref
 
 pub row_beside : (old new : ℕ → ℕ → Bool) (into : ℕ) (line : ℕ → Bool) → ((r c : ℕ) → new r c ≡ (old r c || (nat_eq r into && line c)))
     → (r c : ℕ) → r ≢ into → new r c ≡ old r c
-row_beside old new into line joined r c other = joined r c ∙ rw (ne_eqb r into other) (same (old r c))
-  where
-    same : (b : Bool) → (b || false) ≡ b
-    same true = refl
-    same false = refl
+row_beside old new into line joined r c other = joined r c ∙ rw (ne_eqb r into other) (or-false (old r c))

@@ -3,25 +3,12 @@ use Rattle.std.proofs.Common.{◌≡◌, ◌≢◌, ℕ, zero, suc, ◌<◌, ◌
 use Rattle.std.proofs.lemmas.Bool.{cases_lt, cases_eq, eq-eqb, ne_eqb, lt-ltb, le-ltb}
 use Rattle.etp_bits.specs.Bits.{Bits, bit}
 use Rattle.etp_bits.specs.Counts.{count_below}
+use Rattle.etp_bits.proofs.Counting.{count_below-same, count_below-none}
 use Rattle.etp_theory.specs.LawNumbers.{IsLaw}
 use Rattle.etp_closure.specs.Closures.{slot_of, is_reached, is_covered, bit_by_slots}
 use Rattle.etp_closure.specs.Tables.{IsOneToOne}
 use Rattle.etp_closure.proofs.SlotLemmas.{slot_in}
 use Rattle.etp_closure.proofs.Truths.{apart}
-
-same_below : (p q : ℕ → Bool) (n : ℕ) → ((i : ℕ) → i < n → p i ≡ q i) → count_below p n ≡ count_below q n
-same_below p q zero agree = refl
-same_below p q (suc n) agree =
-    let rest = same_below p q n (λ i h. agree i (omega arith)) in
-    let last = agree n (omega arith) in
-    rw (rest, last) refl
-
-none_below : (p : ℕ → Bool) (n : ℕ) → ((i : ℕ) → p i ≡ false) → count_below p n ≡ 0
-none_below p zero off = refl
-none_below p (suc n) off =
-    let rest = none_below p n off in
-    let last = off n in
-    rw (rest, last) refl
 
 -- one number more may pass
 one_more : (p q : ℕ → Bool) (i n : ℕ) → i < n → p i ≡ false → ((j : ℕ) → j ≢ i → q j ≡ p j)
@@ -30,7 +17,7 @@ one_more p q i zero h off agree = absurd (omega arith)
 one_more p q i (suc n) h off agree =
     elim (cases_eq i n) [
       | inl last ↦
-          let rest = same_below q p n (λ j below. agree j (λ e. (omega (arith, e, last)))) in
+          let rest = count_below-same q p n (λ j below. agree j (λ e. (omega (arith, e, last)))) in
           let here : q n ≡ q i = ap q (sym last) in
           let none : p n ≡ false = ap p (sym last) ∙ off in
           rw (rest, here, none) (omega arith)
@@ -51,7 +38,7 @@ below_first q (Some t) = rw (le-ltb t 0 (omega arith)) refl
 
 first_slots : (slots laws : List ℕ) (q : ℕ → Bool) (k : ℕ) → IsOneToOne slots laws → k ≤ length laws
     → count_below (λ place. of_slot (λ t. nat_lt t k && q t) (slot_of slots (suc place))) (length slots) ≡ count_below q k
-first_slots slots laws q zero pairs fits = none_below _ (length slots) (λ i. below_first q (slot_of slots (suc i)))
+first_slots slots laws q zero pairs fits = count_below-none _ (length slots) (λ i h. below_first q (slot_of slots (suc i)))
 first_slots slots laws q (suc k) pairs fits =
     let law = get_or laws k 0 in
     let at = pairs.slot_law k fits in
@@ -83,7 +70,7 @@ pub slots_laws : (slots laws : List ℕ) (q : ℕ → Bool) → IsOneToOne slots
     → count_below q (length laws) ≡ count_below (λ place. of_slot q (slot_of slots (suc place))) (length slots)
 slots_laws slots laws q pairs =
     sym (first_slots slots laws q (length laws) pairs (omega arith))
-    ∙ same_below _ _ (length slots) (λ i h. go i (slot_of slots (suc i)) refl)
+    ∙ count_below-same _ _ (length slots) (λ i h. go i (slot_of slots (suc i)) refl)
   where
     go : (i : ℕ) (o : Option ℕ) → slot_of slots (suc i) ≡ o → of_slot (λ t. nat_lt t (length laws) && q t) o ≡ of_slot q o
     go i None at = refl
@@ -95,7 +82,7 @@ pub row_reached : (duals slots laws : List ℕ) (reached covered : Bits) (e s : 
 unfolding is_reached
 row_reached duals slots laws reached covered e s pairs at =
     slots_laws slots laws (bit reached s) pairs
-    ∙ same_below _ _ (length slots) (λ i h. rw (add-one, at) (go i (slot_of slots (suc i)) refl))
+    ∙ count_below-same _ _ (length slots) (λ i h. rw (add-one, at) (go i (slot_of slots (suc i)) refl))
   where
     go : (i : ℕ) (o : Option ℕ) → slot_of slots (suc i) ≡ o → of_slot (bit reached s) o ≡ bit_by_slots reached (Some s) o (nat_eq e (suc i))
     go i None none = sym (apart slots e (suc i) s at none)
@@ -108,7 +95,7 @@ pub row_refuted : (duals slots laws : List ℕ) (reached covered : Bits) (e s : 
 unfolding is_reached is_covered
 row_refuted duals slots laws reached covered e s pairs at =
     slots_laws slots laws (λ column. bit covered s column && not (bit reached s column)) pairs
-    ∙ same_below _ _ (length slots) (λ i h. rw (add-one, at) (go i (slot_of slots (suc i))))
+    ∙ count_below-same _ _ (length slots) (λ i h. rw (add-one, at) (go i (slot_of slots (suc i))))
   where
     go : (i : ℕ) (o : Option ℕ) → of_slot (λ column. bit covered s column && not (bit reached s column)) o
         ≡ (bit_by_slots covered (Some s) o false && not (bit_by_slots reached (Some s) o (nat_eq e (suc i))))
@@ -123,10 +110,10 @@ lone_reached duals slots reached covered e none is =
     one_more (λ _. false) (λ place. bit_by_slots reached (slot_of slots e) (slot_of slots (place + 1)) (nat_eq e (place + 1))) (e - 1) (length slots)
     (omega (arith, is.from_one, is.to_last)) refl (λ j differs. rw none (ne_eqb e (j + 1) (λ k. differs (omega (arith, k)))))
     ∙ (let whole : e ≡ e - 1 + 1 = omega (arith, is.from_one) in
-    rw (none, eq-eqb e (e - 1 + 1) whole, none_below (λ _. false) (length slots) (λ i. refl)) refl)
+    rw (none, eq-eqb e (e - 1 + 1) whole, count_below-none (λ _. false) (length slots) (λ i h. refl)) refl)
 
 pub lone_refuted : (duals slots : List ℕ) (reached covered : Bits) (e : ℕ) → slot_of slots e ≡ None
     → count_below (λ place. is_covered (record { duals = duals; slots = slots; reached = reached; covered = covered }) e (place + 1)
     && not (is_reached (record { duals = duals; slots = slots; reached = reached; covered = covered }) e (place + 1))) (length slots) ≡ 0
 unfolding is_covered
-lone_refuted duals slots reached covered e none = none_below _ (length slots) (λ i. rw none refl)
+lone_refuted duals slots reached covered e none = count_below-none _ (length slots) (λ i h. rw none refl)

@@ -2,6 +2,7 @@
 use Rattle.std.proofs.Common.{◌≡◌, ◌≢◌, ℕ, zero, suc, ◌<◌, ◌≤◌, ◌+◌, ◌-◌, ◌↔◌, List, [], ◌∷◌, ◌++◌, length, get_or, set, take, Option, Some, None, IsSome, Contains, All, refl, sym, ap, ◌∙◌, subst, ◌⊎◌, inl, inr, arith, get_or-set_same, get_or-set_other, add-one}
 use Rattle.std.proofs.lemmas.Bool.{cases_lt, cases_eq}
 use Rattle.std.proofs.lemmas.List.{get_or_append_left, get_or_push, length_push, get_or_past, ext_get_or, length-set, length-take-le, get_or-take, get_or_default}
+use Rattle.std.proofs.lemmas.Option.{same_Some}
 use Rattle.etp_theory.specs.LawNumbers.{IsLaw, IsOwnInverse, dual_number}
 use Rattle.etp_closure.specs.Closures.{slot_of, slot_from, IsKept, IsReserved, kept_before, in_first, in_second, dual_in_first, dual_in_second}
 use Rattle.etp_closure.specs.Tables.{IsOneToOne, Extends, IsNamed, listed, dual_listed}
@@ -18,9 +19,6 @@ pub slot_of-set_other : (slots : List ℕ) (law code other : ℕ) → IsLaw (len
 slot_of-set_other slots law code zero is differs = refl
 slot_of-set_other slots law code (suc place) is differs =
     ap slot_from (get_or-set_other slots (law - 1) place code 0 (λ e. differs (omega (arith, e, is.from_one))))
-
-some_same : {x y : ℕ} → Some x ≡ Some y → x ≡ y
-some_same e = (cc (e))
 
 -- a law with a slot is in the list
 pub slot_in : (slots : List ℕ) (law slot : ℕ) → slot_of slots law ≡ Some slot → IsLaw (length slots) law
@@ -51,7 +49,7 @@ one_to_one-push slots laws law pairs is free = record {
       elim (cases_eq other law) [
         | inl same ↦
             let mine = sym (slot_of-set_same slots law (length laws + 1) is) ∙ ap (slot_of (set slots (law - 1) (length laws + 1))) (sym same) ∙ at in
-            let last : slot ≡ length laws = some_same (sym mine ∙ rw add-one refl) in
+            let last : slot ≡ length laws = same_Some _ _ (sym mine ∙ rw add-one refl) in
             ((let whole = length_push laws law in omega (arith, whole)), get_or_push laws law 0 slot (sym last) ∙ sym same)
         | inr differs ↦
             let old = pairs.law_slot other slot (sym (slot_of-set_other slots law (length laws + 1) other is differs) ∙ at) in
@@ -67,7 +65,7 @@ same_slots xs ys size same = ext_get_or 0 xs ys size (λ i below. go (get_or xs 
     go zero zero h = refl
     go zero (suc y) h = (cc ((h y).1 refl))
     go (suc x) zero h = (cc ((h x).0 refl))
-    go (suc x) (suc y) h = ap suc (some_same (sym ((h x).0 refl)))
+    go (suc x) (suc y) h = ap suc (same_Some _ _ (sym ((h x).0 refl)))
 
 -- the laws with places from `count` up to `place` lost their slots
 pub record Forgets (slots now : List ℕ) (count place : ℕ) : Type 0 where
@@ -97,7 +95,7 @@ forgets_one slots now laws count place pairs before past inside =
       stays = λ other slot at side.
           elim (cases_eq other law) [
             | inl same ↦
-                let spot : slot ≡ place = some_same (sym at ∙ ap (slot_of slots) same ∙ mine) in
+                let spot : slot ≡ place = same_Some _ _ (sym at ∙ ap (slot_of slots) same ∙ mine) in
                 absurd (elim side [ inl below ↦ omega (arith, below, spot) | inr beyond ↦ omega (arith, beyond, spot) ])
             | inr differs ↦
                 slot_of-set_other now law 0 other is differs

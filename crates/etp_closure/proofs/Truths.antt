@@ -3,6 +3,7 @@ use Rattle.std.proofs.Common.{◌≡◌, ◌≢◌, ℕ, zero, suc, ◌<◌, ◌
 use Rattle.std.specs.List.{list_any}
 use Rattle.std.proofs.lemmas.List.{get_or-replicate, get_or_past, length-replicate}
 use Rattle.std.proofs.lemmas.Bool.{cases_lt, cases_eq, eqb-true, eq-eqb, ne_eqb, lt-ltb, le-leb, lt-leb, false_from_ne_true, and_right, and_parts, ltb-true, or_cases, or_left, or_right, and_from}
+use Rattle.std.proofs.Math.Bool.{or-false, and-true}
 use Rattle.etp_theory.specs.Reach.{Fact}
 use Rattle.etp_bits.specs.Bits.{Bits, bit, SameSizes}
 use Rattle.etp_theory.specs.LawNumbers.{IsLaw, IsOwnInverse, dual_number}
@@ -11,10 +12,6 @@ use Rattle.etp_closure.proofs.Standing.{stands_empty, stands_same}
 use Rattle.etp_closure.specs.Tables.{IsOneToOne, Extends, IsClosure, IsSquare, IsMarks, IsTurned, MarksUncovered, Links, anew, covered_along, row_of, image_of}
 use Rattle.etp_closure.proofs.SlotLemmas.{slot_kept, kept_by_slot, same_slots, reserved_duals}
 use Rattle.etp_closure.proofs.Closing.{closed_blank, closed_grown, itself_keeps, itself_only, turned_itself}
-
-or_false : (x : Bool) → x ≡ (x || false)
-or_false true = refl
-or_false false = refl
 
 -- a law that is kept isn't one that isn't
 pub apart : (slots : List ℕ) (x y slot : ℕ) → slot_of slots x ≡ Some slot → slot_of slots y ≡ None → nat_eq x y ≡ false
@@ -29,9 +26,9 @@ reached_step : (r0 r1 : Bits) (row column : ℕ) (sx sy : Option ℕ) (xy xf ty 
     → bit_by_slots r1 sx sy xy
     ≡ (bit_by_slots r0 sx sy xy || (bit_by_slots r0 sx (Some row) xf && bit_by_slots r0 (Some column) sy ty))
 reached_step r0 r1 row column (Some s) (Some t) xy xf ty h k bits = bits s t
-reached_step r0 r1 row column (Some s) None xy xf ty h k bits = rw (k refl, and_right (bit r0 s row) false refl) (or_false xy)
-reached_step r0 r1 row column None (Some t) xy xf ty h k bits = rw (h refl) (or_false xy)
-reached_step r0 r1 row column None None xy xf ty h k bits = rw (h refl) (or_false xy)
+reached_step r0 r1 row column (Some s) None xy xf ty h k bits = rw (k refl, and_right (bit r0 s row) false refl) (sym (or-false xy))
+reached_step r0 r1 row column None (Some t) xy xf ty h k bits = rw (h refl) (sym (or-false xy))
+reached_step r0 r1 row column None None xy xf ty h k bits = rw (h refl) (sym (or-false xy))
 
 covered_step : (r0 c0 c1 : Bits) (row column : ℕ) (sx sy : Option ℕ) (tx yf : Bool)
     → (sx ≡ None → tx ≡ false) → (sy ≡ None → yf ≡ false)
@@ -161,11 +158,7 @@ cleared_reached duals slots laws r0 r1 c1 pairs off bits x y = go (slot_of slots
     go : (sx sy : Option ℕ) → slot_of slots x ≡ sx → slot_of slots y ≡ sy → bit_by_slots r1 sx sy (nat_eq x y) ≡ nat_eq x y
     go (Some s) (Some t) at_x at_y =
         let inside = (pairs.law_slot x s at_x).0 in
-        bits s t ∙ rw (off s t, lt-ltb s (length laws) inside, le-leb 0 s (omega arith)) (keep (nat_eq s t) ∙ same_slot slots laws x y s t pairs at_x at_y)
-      where
-        keep : (b : Bool) → (b && true) ≡ b
-        keep true = refl
-        keep false = refl
+        bits s t ∙ rw (off s t, lt-ltb s (length laws) inside, le-leb 0 s (omega arith)) (and-true (nat_eq s t) ∙ same_slot slots laws x y s t pairs at_x at_y)
     go (Some s) None at_x at_y = refl
     go None sy at_x at_y = refl
 
@@ -384,7 +377,7 @@ grown_reached slots laws new new_laws r0 r1 pairs new_pairs more size bits x y =
     go (Some s) (Some t) nx ny at_x at_y new_x new_y =
         let inside = (pairs.law_slot x s at_x).0 in
         rw (sym new_x ∙ more.stays x s at_x, sym new_y ∙ more.stays y t at_y)
-        (bits s t ∙ rw (lt-leb (length laws) s inside, and_right (nat_eq s t) false refl) (sym (or_false (bit r0 s t))))
+        (bits s t ∙ rw (lt-leb (length laws) s inside, and_right (nat_eq s t) false refl) (or-false (bit r0 s t)))
     go (Some s) None nx None at_x at_y new_x new_y = rw (sym new_x ∙ more.stays x s at_x) refl
     go (Some s) None nx (Some t) at_x at_y new_x new_y =
         let inside = (pairs.law_slot x s at_x).0 in
@@ -403,11 +396,7 @@ grown_reached slots laws new new_laws r0 r1 pairs new_pairs more size bits x y =
         let past = new_slot slots laws new new_laws x s more at_x new_x in
         let inside = (new_pairs.law_slot x s new_x).0 in
         bits s t ∙ rw (past_row r0 (length laws) s t size past, le-leb (length laws) s past, lt-ltb s (length new_laws) inside)
-        (keep (nat_eq s t) ∙ same_slot new new_laws x y s t new_pairs new_x new_y)
-      where
-        keep : (b : Bool) → (b && true) ≡ b
-        keep true = refl
-        keep false = refl
+        (and-true (nat_eq s t) ∙ same_slot new new_laws x y s t new_pairs new_x new_y)
 
 grown_covered : (slots laws new new_laws : List ℕ) (c0 c1 : Bits) → Extends slots laws new new_laws → IsSquare c0 (length laws)
     → ((r c : ℕ) → bit c1 r c ≡ bit c0 r c)

@@ -55,7 +55,8 @@ pub data Links (r c new_r new_c : ℕ → ℕ → Bool) (a b : ℕ) : Type 0 whe
 -- what is named is marked, or covered against all of a row already
 pub record MarksUncovered (marks row : ℕ → Bool) (covered : ℕ → ℕ → Bool) (named : ℕ → Bool) : Type 0 where
   pub sound : (law : ℕ) → marks law ≡ true → named law ≡ true
-  pub complete : (law : ℕ) → named law ≡ true → (marks law ≡ true) ⊎ ((other : ℕ) → row other ≡ true → covered law other ≡ true)
+  pub complete : (law : ℕ) → named law ≡ true
+      → (marks law ≡ true) ⊎ ((other : ℕ) → row other ≡ true → covered law other ≡ true)
 
 -- whether there is a first law and the second is reached from it
 abbrev pub reached_from : (ℕ → ℕ → Bool) → Option ℕ → ℕ → Bool
@@ -64,13 +65,17 @@ reached_from reached (Some first) second = reached first second
 
 -- a law is marked already, or reached from the law that is known to be covered against all of a row,
 -- or is found to be covered so itself, or what it reaches is marked
-pub data MarksLaw (old new row : ℕ → Bool) (reached covered : ℕ → ℕ → Bool) (slot : ℕ) (found next : Option ℕ) : Type 0 where
-  was_marked : old slot ≡ true → ((law : ℕ) → new law ≡ old law) → next ≡ found → MarksLaw old new row reached covered slot found next
+pub data MarksLaw (old new row : ℕ → Bool) (reached covered : ℕ → ℕ → Bool) (slot : ℕ)
+    (found next : Option ℕ) : Type 0 where
+  was_marked : old slot ≡ true → ((law : ℕ) → new law ≡ old law) → next ≡ found
+      → MarksLaw old new row reached covered slot found next
   was_reached : reached_from reached found slot ≡ true → ((law : ℕ) → new law ≡ old law) → next ≡ found
       → MarksLaw old new row reached covered slot found next
-  is_found : ((law : ℕ) → row law ≡ true → covered slot law ≡ true) → ((law : ℕ) → new law ≡ old law) → (next ≡ Some slot) ⊎ (next ≡ found)
+  is_found : ((law : ℕ) → row law ≡ true → covered slot law ≡ true) → ((law : ℕ) → new law ≡ old law)
+      → (next ≡ Some slot) ⊎ (next ≡ found)
       → MarksLaw old new row reached covered slot found next
-  is_added : ((law : ℕ) → new law ≡ (old law || reached slot law)) → next ≡ found → MarksLaw old new row reached covered slot found next
+  is_added : ((law : ℕ) → new law ≡ (old law || reached slot law)) → next ≡ found
+      → MarksLaw old new row reached covered slot found next
 
 -- more laws have slots, and the slots that were there stay
 pub record Extends (old_slots old_laws new_slots new_laws : List ℕ) : Type 0 where
@@ -94,7 +99,8 @@ abbrev pub image_of : List ℕ → Bool → ℕ → ℕ
 image_of duals dual law = if dual then dual_number duals law else law
 
 -- what a closure's fields keep
-pub record IsClosure (duals slots laws : List ℕ) (reached covered marks reaching : Bits) (has_covered : Bool) : Type 0 where
+pub record IsClosure (duals slots laws : List ℕ) (reached covered marks reaching : Bits)
+    (has_covered : Bool) : Type 0 where
   pub own_inverse : IsOwnInverse duals
   pub same_size : length slots ≡ length duals
   pub paired : IsOneToOne slots laws

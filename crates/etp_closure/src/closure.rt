@@ -38,9 +38,15 @@ impl Model for Closure {
 
     ghost Value = { Known };
 
-    ghost view = { λ c. record { duals = c.duals.items; slots = c.slots.items; reached = c.reached; covered = c.covered } };
+    ghost view = { λ c. record {
+      duals = c.duals.items;
+      slots = c.slots.items;
+      reached = c.reached;
+      covered = c.covered;
+    } };
 
-    ghost invariant = { λ c. IsClosure c.duals.items c.slots.items c.laws.items c.reached c.covered c.marks c.reaching c.has_covered };
+    ghost invariant = { λ c. IsClosure c.duals.items c.slots.items c.laws.items c.reached c.covered
+        c.marks c.reaching c.has_covered };
 }
 
 impl Closure {
@@ -76,8 +82,10 @@ impl Closure {
         requires { IsLaw (length self.now.duals) law }
         ensures value { result ≡ slot_of self.now.slots law }
         ensures own { (other : ℕ) → IsSome result → slot_of self.now.slots other ≡ result → other ≡ law }
-        ensures in_reached { IfSome result (λ slot. (slot < self.now.reached.rows) × (slot < self.now.reached.columns)) }
-        ensures in_covered { IfSome result (λ slot. (slot < self.now.covered.rows) × (slot < self.now.covered.columns)) }
+        ensures in_reached { IfSome result (λ slot.
+            (slot < self.now.reached.rows) × (slot < self.now.reached.columns)) }
+        ensures in_covered { IfSome result (λ slot.
+            (slot < self.now.covered.rows) × (slot < self.now.covered.columns)) }
     {
         slot_at(&self.slots, law)
     }
@@ -133,8 +141,11 @@ impl Closure {
     /// How many laws, of all, have each answer as the second of a pair with this law.
     pub fn row_counts(&self, e: u32) -> RowCounts
         requires { IsLaw (length self.now.duals) e }
-        ensures implied { result.implied ≡ count_below (λ place. is_reached self.now e (place + 1)) (length self.now.duals) }
-        ensures refuted { result.refuted ≡ count_below (λ place. is_covered self.now e (place + 1) && not (is_reached self.now e (place + 1))) (length self.now.duals) }
+        ensures implied { result.implied ≡ count_below (λ place. is_reached self.now e (place + 1))
+            (length self.now.duals) }
+        ensures refuted { result.refuted ≡ count_below
+            (λ place. is_covered self.now e (place + 1) && not (is_reached self.now e (place + 1)))
+            (length self.now.duals) }
     {
         match slot_at(&self.slots, e) {
             None => RowCounts {
@@ -153,7 +164,8 @@ impl Closure {
         requires first_in { All (IsLaw (length self.old.duals)) first.now }
         requires second_in { All (IsLaw (length self.old.duals)) second.now }
         ensures duals { self.new.duals ≡ self.old.duals }
-        ensures kept { OnOk result ((law : ℕ) → IsKept self.new.slots law ↔ IsReserved self.old.duals self.old.slots first.now second.now law) }
+        ensures kept { OnOk result ((law : ℕ) → IsKept self.new.slots law
+            ↔ IsReserved self.old.duals self.old.slots first.now second.now law) }
         ensures slots { KeepsSlots self.old.slots self.new.slots }
         ensures answers { SameAnswers self.old self.new }
         ensures stands { (facts : List FactOf) → StandsFor self.old facts → StandsFor self.new facts }
@@ -188,7 +200,8 @@ impl Closure {
         requires goal_kept { IsKept self.old.slots goal }
         ensures duals { self.new.duals ≡ self.old.duals }
         ensures slots { self.new.slots ≡ self.old.slots }
-        ensures stands { (facts : List FactOf) → StandsFor self.old facts → StandsFor self.new (facts ++ implies hypothesis goal ∷ []) }
+        ensures stands { (facts : List FactOf) → StandsFor self.old facts
+            → StandsFor self.new (facts ++ implies hypothesis goal ∷ []) }
     {
         self.add_edge(hypothesis, goal);
         let dual_hypothesis = self.dual_of(hypothesis);
@@ -202,7 +215,8 @@ impl Closure {
         requires fails_kept { All (IsKept self.old.slots) fails.now }
         ensures duals { self.new.duals ≡ self.old.duals }
         ensures slots { self.new.slots ≡ self.old.slots }
-        ensures stands { (facts : List FactOf) → StandsFor self.old facts → StandsFor self.new (facts ++ refutes holds.now fails.now ∷ []) }
+        ensures stands { (facts : List FactOf) → StandsFor self.old facts
+            → StandsFor self.new (facts ++ refutes holds.now fails.now ∷ []) }
     {
         self.add_pairs(holds, fails, false);
         self.add_pairs(holds, fails, true);
@@ -238,7 +252,8 @@ impl Closure {
         requires to_kept { IsKept self.old.slots to }
         ensures duals { self.new.duals ≡ self.old.duals }
         ensures slots { self.new.slots ≡ self.old.slots }
-        ensures links { Links (is_reached self.old) (is_covered self.old) (is_reached self.new) (is_covered self.new) from to }
+        ensures links { Links (is_reached self.old) (is_covered self.old) (is_reached self.new)
+            (is_covered self.new) from to }
     {
         let row = kept_slot(&self.slots, from);
         let column = kept_slot(&self.slots, to);
@@ -268,7 +283,11 @@ impl Closure {
         ensures duals { self.new.duals ≡ self.old.duals }
         ensures slots { self.new.slots ≡ self.old.slots }
         ensures reached { self.new.reached ≡ self.old.reached }
-        ensures covered { (x y : ℕ) → is_covered self.new x y ≡ (is_covered self.old x y || (list_any (λ law. is_reached self.old (image_of self.old.duals dual law) x) holds.now && list_any (λ law. is_reached self.old y (image_of self.old.duals dual law)) fails.now)) }
+        ensures covered { (x y : ℕ) → is_covered self.new x y
+            ≡ (is_covered self.old x y || (list_any
+            (λ law. is_reached self.old (image_of self.old.duals dual law) x) holds.now
+            && list_any (λ law. is_reached self.old y (image_of self.old.duals dual law))
+            fails.now)) }
     {
         self.marks.clear();
         mark_joined(

@@ -55,14 +55,17 @@ pub(crate) fn keep_all(
     list: &[u32],
 ) -> Result<(), AllocError>
     requires size { length slots.old ≡ length duals.now }
-    requires duals_in { (law : ℕ) → IsLaw (length duals.now) law → IsLaw (length duals.now) (dual_number duals.now law) }
+    requires duals_in { (law : ℕ) → IsLaw (length duals.now) law
+        → IsLaw (length duals.now) (dual_number duals.now law) }
     requires list_in { All (IsLaw (length duals.now)) list.now }
     requires paired { IsOneToOne slots.old laws.old.items }
     requires few { vec_len laws.old < 2 ^ 32 }
     ensures paired { IsOneToOne slots.new laws.new.items }
     ensures few { vec_len laws.new < 2 ^ 32 }
     ensures extends { Extends slots.old laws.old.items slots.new laws.new.items }
-    ensures kept { OnOk result (All (λ law. IsKept slots.new law × IsKept slots.new (dual_number duals.now law)) list.now) }
+    ensures kept { OnOk result
+        (All (λ law. IsKept slots.new law × IsKept slots.new (dual_number duals.now law))
+        list.now) }
     ensures only { (other : ℕ) → IsKept slots.new other → IsKept slots.old other ⊎ IsNamed duals.now list.now other }
 {
     for law in list {
@@ -81,7 +84,8 @@ fn keep_both(
     second: &[u32],
 ) -> Result<(), AllocError>
     requires size { length slots.old ≡ length duals.now }
-    requires duals_in { (law : ℕ) → IsLaw (length duals.now) law → IsLaw (length duals.now) (dual_number duals.now law) }
+    requires duals_in { (law : ℕ) → IsLaw (length duals.now) law
+        → IsLaw (length duals.now) (dual_number duals.now law) }
     requires first_in { All (IsLaw (length duals.now)) first.now }
     requires second_in { All (IsLaw (length duals.now)) second.now }
     requires paired { IsOneToOne slots.old laws.old.items }
@@ -89,7 +93,8 @@ fn keep_both(
     ensures paired { IsOneToOne slots.new laws.new.items }
     ensures few { vec_len laws.new < 2 ^ 32 }
     ensures extends { Extends slots.old laws.old.items slots.new laws.new.items }
-    ensures kept { OnOk result ((law : ℕ) → IsKept slots.new law ↔ IsReserved duals.now slots.old first.now second.now law) }
+    ensures kept { OnOk result ((law : ℕ) → IsKept slots.new law
+        ↔ IsReserved duals.now slots.old first.now second.now law) }
 {
     keep_all(slots, laws, duals, first)?;
     keep_all(slots, laws, duals, second)?;
@@ -105,7 +110,8 @@ pub(crate) fn keep_or_leave(
     second: &[u32],
 ) -> Result<(), AllocError>
     requires size { length slots.old ≡ length duals.now }
-    requires duals_in { (law : ℕ) → IsLaw (length duals.now) law → IsLaw (length duals.now) (dual_number duals.now law) }
+    requires duals_in { (law : ℕ) → IsLaw (length duals.now) law
+        → IsLaw (length duals.now) (dual_number duals.now law) }
     requires first_in { All (IsLaw (length duals.now)) first.now }
     requires second_in { All (IsLaw (length duals.now)) second.now }
     requires paired { IsOneToOne slots.old laws.old.items }
@@ -113,7 +119,8 @@ pub(crate) fn keep_or_leave(
     ensures paired { IsOneToOne slots.new laws.new.items }
     ensures few { vec_len laws.new < 2 ^ 32 }
     ensures extends { Extends slots.old laws.old.items slots.new laws.new.items }
-    ensures kept { OnOk result ((law : ℕ) → IsKept slots.new law ↔ IsReserved duals.now slots.old first.now second.now law) }
+    ensures kept { OnOk result ((law : ℕ) → IsKept slots.new law
+        ↔ IsReserved duals.now slots.old first.now second.now law) }
     ensures err { OnErr result (slots.new ≡ slots.old) }
     ensures err_laws { OnErr result (length laws.new.items ≡ length laws.old.items) }
 {
@@ -132,7 +139,8 @@ pub(crate) fn forget(slots: &mut [u32], laws: &mut Vec<u32>, count: usize)
     ensures size { length slots.new ≡ length slots.old }
     ensures laws { laws.new.items ≡ take count laws.old.items }
     ensures paired { IsOneToOne slots.new laws.new.items }
-    ensures slots { (law slot : ℕ) → (slot_of slots.new law ≡ Some slot) ↔ ((slot_of slots.old law ≡ Some slot) × (slot < count)) }
+    ensures slots { (law slot : ℕ) → (slot_of slots.new law ≡ Some slot)
+        ↔ ((slot_of slots.old law ≡ Some slot) × (slot < count)) }
 {
     for place in count..laws.len() {
         slots[laws[place] as usize - 1] = 0;

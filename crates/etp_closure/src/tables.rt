@@ -16,7 +16,9 @@ fn mark_column(marks: &mut Matrix, into: u32, matrix: &Matrix, column: u32)
     requires wide { matrix.now.rows ≤ marks.old.columns }
     requires column_in { column < matrix.now.columns }
     ensures sizes { SameSizes marks.old marks.new }
-    ensures bits { (r c : ℕ) → bit marks.new r c ≡ (bit marks.old r c || (nat_eq r into && (nat_lt c matrix.now.rows && bit matrix.now c column))) }
+    ensures bits { (r c : ℕ) → bit marks.new r c
+        ≡ (bit marks.old r c || (nat_eq r into
+        && (nat_lt c matrix.now.rows && bit matrix.now c column))) }
 {
     for row in 0..matrix.rows() {
         if matrix.get(row, column) {
@@ -41,12 +43,14 @@ pub(crate) fn link_reached(
     requires reaching_size { IsSquare reaching.old marks.old.columns }
     requires marks_rows { marks.old.rows ≡ 4 }
     requires turned { IsTurned reached.old reaching.old }
-    requires onward { (x y z : ℕ) → bit reached.old x y ≡ true → bit reached.old y z ≡ true → bit reached.old x z ≡ true }
+    requires onward { (x y z : ℕ) → bit reached.old x y ≡ true → bit reached.old y z ≡ true
+        → bit reached.old x z ≡ true }
     ensures reached_size { IsSquare reached.new marks.old.columns }
     ensures reaching_size { IsSquare reaching.new marks.old.columns }
     ensures marks_size { SameSizes marks.old marks.new }
     ensures turned { IsTurned reached.new reaching.new }
-    ensures reached { (r c : ℕ) → bit reached.new r c ≡ (bit reached.old r c || (bit reached.old r from && bit reached.old to c)) }
+    ensures reached { (r c : ℕ) → bit reached.new r c
+        ≡ (bit reached.old r c || (bit reached.old r from && bit reached.old to c)) }
     ensures marks { MarksEdge marks.new (bit reached.old) from to }
     ensures marked_in { (r c : ℕ) → bit marks.new r c ≡ true → c < marks.old.columns }
 {
@@ -76,7 +80,8 @@ pub(crate) fn link_covered(
     requires marked_in { (r c : ℕ) → bit marks.old r c ≡ true → c < marks.old.columns }
     ensures covered_size { IsSquare covered.new marks.old.columns }
     ensures marks_size { SameSizes marks.old marks.new }
-    ensures covered { (r c : ℕ) → bit covered.new r c ≡ moved_along (bit marks.old 0) (bit marks.old 1) (bit covered.old) from to r c }
+    ensures covered { (r c : ℕ) → bit covered.new r c
+        ≡ moved_along (bit marks.old 0) (bit marks.old 1) (bit covered.old) from to r c }
 {
     if !has_covered {
         return;
@@ -93,7 +98,8 @@ pub(crate) fn reach_themselves(reached: &mut Matrix, first: u32, count: u32)
     requires tall { count ≤ reached.old.rows }
     requires wide { count ≤ reached.old.columns }
     ensures sizes { SameSizes reached.old reached.new }
-    ensures bits { (r c : ℕ) → bit reached.new r c ≡ (bit reached.old r c || (nat_eq r c && (nat_le first r && nat_lt r count))) }
+    ensures bits { (r c : ℕ) → bit reached.new r c
+        ≡ (bit reached.old r c || (nat_eq r c && (nat_le first r && nat_lt r count))) }
 {
     for slot in first..count {
         reached.set(slot, slot);
@@ -200,10 +206,13 @@ pub(crate) fn mark_joined(
     requires onward { (x y z : ℕ) → bit matrix.now x y ≡ true → bit matrix.now y z ≡ true → bit matrix.now x z ≡ true }
     requires list_in { All (IsLaw (length duals.now)) list.now }
     requires kept { All (λ law. IsKept slots.now (image_of duals.now dual law)) list.now }
-    requires rows { (law slot : ℕ) → slot_of slots.now law ≡ Some slot → (slot < matrix.now.rows) × (slot < marks.old.columns) }
+    requires rows { (law slot : ℕ) → slot_of slots.now law ≡ Some slot
+        → (slot < matrix.now.rows) × (slot < marks.old.columns) }
     ensures sizes { SameSizes marks.old marks.new }
     ensures others { (r c : ℕ) → r ≢ 1 → bit marks.new r c ≡ bit marks.old r c }
-    ensures bits { (c : ℕ) → bit marks.new 1 c ≡ list_any (λ law. bit matrix.now (row_of slots.now (image_of duals.now dual law)) c) list.now }
+    ensures bits { (c : ℕ) → bit marks.new 1 c
+        ≡ list_any (λ law. bit matrix.now (row_of slots.now (image_of duals.now dual law)) c)
+        list.now }
 {
     for law in list {
         let slot = kept_slot(slots, image(duals, dual, *law));
@@ -231,10 +240,13 @@ pub(crate) fn mark_uncovered(
     requires closed { IsClosed (bit reached.now) (bit covered.now) }
     requires list_in { All (IsLaw (length duals.now)) list.now }
     requires kept { All (λ law. IsKept slots.now (image_of duals.now dual law)) list.now }
-    requires rows { (law slot : ℕ) → slot_of slots.now law ≡ Some slot → (slot < reached.now.rows) × (slot < covered.now.rows) × (slot < reached.now.columns) }
+    requires rows { (law slot : ℕ) → slot_of slots.now law ≡ Some slot
+        → (slot < reached.now.rows) × (slot < covered.now.rows) × (slot < reached.now.columns) }
     ensures sizes { SameSizes marks.old marks.new }
     ensures line { (c : ℕ) → bit marks.new 1 c ≡ bit marks.old 1 c }
-    ensures uncovered { MarksUncovered (bit marks.new 0) (bit marks.old 1) (bit covered.now) (λ c. list_any (λ law. bit reached.now (row_of slots.now (image_of duals.now dual law)) c) list.now) }
+    ensures uncovered { MarksUncovered (bit marks.new 0) (bit marks.old 1) (bit covered.now)
+        (λ c. list_any (λ law. bit reached.now (row_of slots.now (image_of duals.now dual law)) c)
+        list.now) }
 {
     let mut found = None;
     for law in list {
@@ -263,7 +275,8 @@ fn mark_law(
     ensures sizes { SameSizes marks.old marks.new }
     ensures line { (c : ℕ) → bit marks.new 1 c ≡ bit marks.old 1 c }
     ensures found_in { IfSome result (λ row. row < reached.now.rows) }
-    ensures marked { MarksLaw (bit marks.old 0) (bit marks.new 0) (bit marks.old 1) (bit reached.now) (bit covered.now) slot found result }
+    ensures marked { MarksLaw (bit marks.old 0) (bit marks.new 0) (bit marks.old 1)
+        (bit reached.now) (bit covered.now) slot found result }
 {
     if marks.get(0, slot) || is_reached_from(reached, found, slot) {
         return found;

@@ -4,14 +4,12 @@ use Rattle.std.specs.Prelude.{IsTrue}
 use Rattle.etp_theory.specs.Trees.{Tree, var, op, bound}
 use Rattle.etp_theory.specs.Magmas.{meaning, IsClosed, Holds}
 use Rattle.etp_theory.specs.Sound.{meaning_inside}
+use Rattle.etp_theory.proofs.Comparing.{equal_or_below}
 use Rattle.etp_forms.specs.Forms.{Affine, combined, coefficient, constant, sum_to, only, IsLinear, Spanned, is_origin, is_generator, is_sum, is_difference, Generate, HaveOneForm}
 
 cond_cases : {A : Type 0} (P : A → Type 0) (b : Bool) (x y : A) → P x → P y → P (cond b x y)
 cond_cases P true x y p q = p
 cond_cases P false x y p q = q
-
-eq_or_lt : (v n : ℕ) → v < suc n → (v ≡ n) ⊎ (v < n)
-eq_or_lt v n h = grind arith
 
 module _ {A : Type 0} (inside : A → Bool) (times : A → A → A) (f : Affine A) (linear : IsLinear inside times f) where
   abbrev In : A → Type 0
@@ -91,7 +89,7 @@ module _ {A : Type 0} (inside : A → Bool) (times : A → A → A) (f : Affine 
 
   sum_one : (n x : ℕ) (r : ℕ → A) → ((v : ℕ) → In (r v)) → x < n → sum_to f n (λ v. cond (eqb x v) (r v) f.origin) ≡ r x
   sum_one zero x r i h = absurd (omega arith)
-  sum_one (suc n) x r i h = go (eq_or_lt x n h) (sum_one n x r i)
+  sum_one (suc n) x r i h = go (equal_or_below x n h) (sum_one n x r i)
     where
       go : (x ≡ n) ⊎ (x < n) → (x < n → sum_to f n (λ v. cond (eqb x v) (r v) f.origin) ≡ r x) → sum_to f (suc n) (λ v. cond (eqb x v) (r v) f.origin) ≡ r x
       go (inl e) k = ap₂ (λ s b. plus s (cond b (r n) f.origin)) (sum_none n x r (omega arith)) (eq-eqb x n e) ∙ left_neutral (r n) (i n) ∙ ap r (sym e)

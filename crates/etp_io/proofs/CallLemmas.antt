@@ -2,7 +2,7 @@
 use Rattle.std.proofs.Common.{◌≡◌, ℕ, ◌+◌, ◌-◌, ◌≤◌, Bool, true, false, IsTrue, inl, inr, List, [], ◌∷◌, ◌++◌, length, map, take, drop, Option, None, Some, refl, sym, ◌∙◌, ap, arith, append_assoc, append-nil, length-append}
 use Rattle.std.proofs.lemmas.Bool.Decides.{nat_tests}
 use Rattle.std.proofs.lemmas.Bool.{cases_eq}
-use Rattle.std.proofs.lemmas.List.{drop-drop, length-drop}
+use Rattle.std.proofs.lemmas.List.{drop-drop, length-drop, map-append}
 use Rattle.std.proofs.Math.Seq.{take-append-add}
 use Rattle.std.specs.Io.KnownBytes.{Appends}
 use Rattle.etp_io.specs.Causes.{Rose}
@@ -11,6 +11,7 @@ use Rattle.etp_io.specs.Stream.{Loses, IsPrefix, AppendsPrefix}
 use Rattle.etp_io.specs.Texts.{LineText, begin_first, raw_lines, text_of, lines_of, NoNewline, keep_newline, to_last_newline}
 use Rattle.etp_io.specs.Reader.{Reader}
 use Rattle.etp_io.specs.Answers.{Fits, FitsAt, PartGives}
+use Rattle.etp_io.proofs.LineLemmas.{raw_lines-byte}
 
 -- counts
 
@@ -109,15 +110,8 @@ to_last_newline-plain (b ∷ xs) h = ap (keep_newline b) (to_last_newline-plain 
 
 -- lines
 
-map-append : (f : List ℕ → LineText) (xs ys : List (List ℕ)) → map f (xs ++ ys) ≡ map f xs ++ map f ys
-map-append f [] ys = refl
-map-append f (x ∷ xs) ys = ap (λ l. f x ∷ l) (map-append f xs ys)
-
 raw_lines-newline : (b : ℕ) (bytes : List ℕ) → b ≡ 10 → raw_lines (b ∷ bytes) ≡ [] ∷ raw_lines bytes
 raw_lines-newline b bytes e = grind (arith, nat_tests)
-
-raw_lines-byte : (b : ℕ) (bytes : List ℕ) → (b ≡ 10 → ⊥) → raw_lines (b ∷ bytes) ≡ begin_first b (raw_lines bytes)
-raw_lines-byte b bytes n = grind (arith, nat_tests)
 
 begin_first-append : (b : ℕ) (xs ys : List (List ℕ)) → (xs ≡ [] → ⊥) → begin_first b (xs ++ ys) ≡ begin_first b xs ++ ys
 begin_first-append b [] ys h = let no : ⊥ = h refl in absurd no

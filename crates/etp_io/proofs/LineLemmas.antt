@@ -13,7 +13,7 @@ NoNewline-append (x ∷ xs) ys h k = (h.0, NoNewline-append xs ys h.1 k)
 
 -- the lines of a part
 
-raw_lines-byte : (b : ℕ) (bytes : List ℕ) → (b ≡ 10 → ⊥) → raw_lines (b ∷ bytes) ≡ begin_first b (raw_lines bytes)
+pub raw_lines-byte : (b : ℕ) (bytes : List ℕ) → (b ≡ 10 → ⊥) → raw_lines (b ∷ bytes) ≡ begin_first b (raw_lines bytes)
 raw_lines-byte b bytes n = grind (arith, nat_tests)
 
 pub raw_lines-plain : (b : ℕ) (seen : List ℕ) → NoNewline (b ∷ seen) → raw_lines (b ∷ seen) ≡ (b ∷ seen) ∷ []

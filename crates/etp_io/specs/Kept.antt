@@ -7,7 +7,8 @@ use Rattle.etp_io.specs.declared.shelves.Entry.{Entry}
 -- the bytes of the first entry with this name
 abbrev pub kept_in : List Entry → List ℕ → Option (List ℕ)
 kept_in [] name = None
-kept_in (entry ∷ entries) name = if pointwise nat_eq entry.name.items name then Some entry.bytes.items else kept_in entries name
+kept_in (entry ∷ entries) name =
+    if pointwise nat_eq entry.name.items name then Some entry.bytes.items else kept_in entries name
 
 abbrev pub or_empty : Option (List ℕ) → List ℕ
 or_empty None = []

@@ -52,7 +52,8 @@ pub record NextHeld (old new : Reader) (next : Next) : Type 0 where
   pub not_end : old.ended ≡ false → next ≡ End → ⊥
 
 abbrev pub AnswersHeld : Reader → Reader → Option (Result Next InFault) → Type 0
-AnswersHeld old new None = (old.fault ≡ None) × (old.ended ≡ false) × (new.number ≡ old.number) × Joins [] old.held new.line new.held
+AnswersHeld old new None =
+    (old.fault ≡ None) × (old.ended ≡ false) × (new.number ≡ old.number) × Joins [] old.held new.line new.held
 AnswersHeld old new (Some (Err fault)) = (old.fault ≡ Some fault) × (new ≡ record old { line = [] })
 AnswersHeld old new (Some (Ok next)) = (old.fault ≡ None) × NextHeld old new next
 
@@ -71,7 +72,8 @@ AnswersRead old new (Some next) = NextRead old new next
 
 -- a read, and what it gave
 pub record Filled (old new : Reader) (g g' f f' : ℕ) (l l' : Option (List ℕ)) : Type 0 where
-  pub same : new ≡ record old { held = new.held; line = new.line; taken = new.taken; ended = new.ended; fault = new.fault }
+  pub same : new ≡
+      record old { held = new.held; line = new.line; taken = new.taken; ended = new.ended; fault = new.fault }
   pub taken : new.taken ≡ old.taken + length new.held
   pub says : SaysTooMuch new.limit new.taken new.fault
   pub bytes : Keeps l (to_come new l')

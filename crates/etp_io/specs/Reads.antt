@@ -12,7 +12,8 @@ NoneBefore None n = ⊤
 NoneBefore (Some bytes) n = NoNewline (take n bytes)
 
 -- one read that asked for so many bytes and gave n
-pub record Gave {S : Type 0} (gives : S → ℕ → Result ℕ Failed → S → Type 0) (old : S) (asked n : ℕ) (new : S) : Type 0 where
+pub record Gave {S : Type 0} (gives : S → ℕ → Result ℕ Failed → S → Type 0)
+    (old : S) (asked n : ℕ) (new : S) : Type 0 where
   pub result : Result ℕ Failed
   pub answer : gives old asked result new
   pub amount : count_of result ≡ n
@@ -21,7 +22,8 @@ pub record Gave {S : Type 0} (gives : S → ℕ → Result ℕ Failed → S → 
 -- at a place may answer. Each asks for the lesser of 4096 and one byte more than the limit still
 -- allows, and is made only where no whole line is held: none stands in the bytes to come that were
 -- held at first or taken since.
-pub data GivingReads {S : Type 0} (gives : S → ℕ → ℕ → Result ℕ Failed → S → Type 0) (limit held first : ℕ) (to_come : Option (List ℕ)) : S → ℕ → S → ℕ → Type 0 where
+pub data GivingReads {S : Type 0} (gives : S → ℕ → ℕ → Result ℕ Failed → S → Type 0)
+    (limit held first : ℕ) (to_come : Option (List ℕ)) : S → ℕ → S → ℕ → Type 0 where
   none_yet : (s : S) (taken : ℕ) → GivingReads gives limit held first to_come s taken s taken
   read_then : (s t u : S) (taken middle : ℕ) (result : Result ℕ Failed)
       → GivingReads gives limit held first to_come s taken t middle
@@ -31,7 +33,8 @@ pub data GivingReads {S : Type 0} (gives : S → ℕ → ℕ → Result ℕ Fail
       → GivingReads gives limit held first to_come s taken u (middle + count_of result)
 
 -- no read, or such reads and a last one of their kind, whatever it gave
-pub data Reads {S : Type 0} (gives : S → ℕ → ℕ → Result ℕ Failed → S → Type 0) (limit held first : ℕ) (to_come : Option (List ℕ)) : S → ℕ → S → ℕ → Type 0 where
+pub data Reads {S : Type 0} (gives : S → ℕ → ℕ → Result ℕ Failed → S → Type 0)
+    (limit held first : ℕ) (to_come : Option (List ℕ)) : S → ℕ → S → ℕ → Type 0 where
   no_read : (s : S) (taken : ℕ) → Reads gives limit held first to_come s taken s taken
   last_read : (s t u : S) (taken middle : ℕ) (result : Result ℕ Failed)
       → GivingReads gives limit held first to_come s taken t middle

@@ -5,7 +5,8 @@ use Rattle.std.specs.declared.option.Option.{Option}
 -- the name is there, and these n bytes stand at the place; none is at the end or past it
 abbrev pub KeepsAt : Option (List ℕ) → ℕ → ℕ → List ℕ → Type 0
 KeepsAt None at n buf = ⊥
-KeepsAt (Some bytes) at n buf = (take n (drop at bytes) ≡ take n buf) × (n ≤ length bytes - at) × (n ≡ 0 → length bytes ≤ at)
+KeepsAt (Some bytes) at n buf =
+    (take n (drop at bytes) ≡ take n buf) × (n ≤ length bytes - at) × (n ≡ 0 → length bytes ≤ at)
 
 -- the bytes of a name that is there, from a place on
 abbrev pub rest_at : Option (List ℕ) → ℕ → Option (List ℕ)

@@ -31,7 +31,8 @@ fn put_first(entries: &mut Vec<Entry>, name: Vec<u8>, bytes: Vec<u8>) -> Result<
 
 // The bytes of the name, where it has an entry.
 fn bytes_of<'a>(entries: &'a [Entry], name: &[u8]) -> Option<&'a [u8]>
-    ensures { MatchOption result (kept_in entries.now name.now ≡ None) (λ bytes. kept_in entries.now name.now ≡ Some bytes.now) }
+    ensures { MatchOption result (kept_in entries.now name.now ≡ None)
+        (λ bytes. kept_in entries.now name.now ≡ Some bytes.now) }
 {
     for entry in entries {
         if entry.name.as_slice() == name {
@@ -100,10 +101,17 @@ impl MemoryShelf {
 
     /// The name has these bytes from now on, in place of earlier ones.
     pub fn put(&mut self, name: Vec<u8>, bytes: Vec<u8>) -> Result<(), AllocError>
-        ensures ok { OnOk result ((q : List ℕ) → kept_in self.new.entries.items q ≡ (if pointwise nat_eq name.items q then Some bytes.items else kept_in self.old.entries.items q)) }
+        ensures ok { OnOk result ((q : List ℕ)
+            → kept_in self.new.entries.items q
+            ≡ (if pointwise nat_eq name.items q then Some bytes.items
+            else kept_in self.old.entries.items q)) }
         ensures err { OnErr result (self.new.entries.items ≡ self.old.entries.items) }
-        ensures same { (self.new.piece ≡ self.old.piece) × (self.new.failing.items ≡ self.old.failing.items) × (self.new.calls ≡ self.old.calls) }
-        ensures counts { (self.new.faults ≡ self.old.faults) × (self.new.given ≡ self.old.given) × (self.new.failed_length ≡ self.old.failed_length) × (self.new.failed ≡ self.old.failed) }
+        ensures same { (self.new.piece ≡ self.old.piece)
+            × (self.new.failing.items ≡ self.old.failing.items)
+            × (self.new.calls ≡ self.old.calls) }
+        ensures counts { (self.new.faults ≡ self.old.faults) × (self.new.given ≡ self.old.given)
+            × (self.new.failed_length ≡ self.old.failed_length)
+            × (self.new.failed ≡ self.old.failed) }
     {
         put_first(&mut self.entries, name, bytes)
     }
@@ -111,7 +119,8 @@ impl MemoryShelf {
     // Counts a fault of the name.
     fn fail(&mut self, name: &[u8]) -> Failed
         requires { length name.now ≤ 64 }
-        ensures same { (self.new.entries ≡ self.old.entries) × (self.new.piece ≡ self.old.piece) × (self.new.failing ≡ self.old.failing)
+        ensures same { (self.new.entries ≡ self.old.entries) × (self.new.piece ≡ self.old.piece)
+            × (self.new.failing ≡ self.old.failing)
             × (self.new.calls ≡ self.old.calls) × (self.new.given ≡ self.old.given) }
         ensures rose { Rose self.old.faults self.new.faults }
         ensures later { self.old.faults ≤ self.new.faults }
@@ -133,7 +142,8 @@ impl Shelf for MemoryShelf {
 
     ghost failed_name = { λ s. take s.failed_length s.failed };
 
-    ghost gives = { λ s name at n r t. MovesUnless (Contains s.failing.items t.calls ⊎ (kept_in s.entries.items name ≡ None))
+    ghost gives = { λ s name at n r t. MovesUnless
+        (Contains s.failing.items t.calls ⊎ (kept_in s.entries.items name ≡ None))
         (min (length (kept_or_empty s.entries.items name) - at) (min n s.piece)) r
         × (t.calls ≡ min (s.calls + 1) (2 ^ 64 - 1)) × (t.piece ≡ s.piece) × (t.failing.items ≡ s.failing.items) };
 
@@ -173,7 +183,10 @@ impl SureShelf {
 
     /// The name has these bytes from now on, in place of earlier ones.
     pub fn put(&mut self, name: Vec<u8>, bytes: Vec<u8>) -> Result<(), AllocError>
-        ensures ok { OnOk result ((q : List ℕ) → kept_or_empty self.new.entries.items q ≡ (if pointwise nat_eq name.items q then bytes.items else kept_or_empty self.old.entries.items q)) }
+        ensures ok { OnOk result ((q : List ℕ)
+            → kept_or_empty self.new.entries.items q
+            ≡ (if pointwise nat_eq name.items q then bytes.items
+            else kept_or_empty self.old.entries.items q)) }
         ensures err { OnErr result (self.new.entries.items ≡ self.old.entries.items) }
         ensures same { self.new.given ≡ self.old.given }
     {

@@ -1,15 +1,15 @@
 -- How many laws stand before those of two shapes.
 use Rattle.std.proofs.Common.{◌≡◌, ℕ, ◌+◌, ◌*◌, ◌<◌, ◌≤◌, ◌⊎◌, inl, inr, List, [], ◌∷◌, length, length-append, flat_map, take, drop, refl, sym, ◌∙◌, ap, subst, suc, zero, false, arith}
 use Rattle.std.proofs.lemmas.Bool.{cases_order, true≢false}
-use Rattle.std.proofs.lemmas.Bool.Decides.{nat_tests}
 use Rattle.std.specs.List.{range_with_len}
-use Rattle.std.specs.Ordering.{nat_cmp, is_gt, ordering_reverse}
+use Rattle.std.specs.Ordering.{is_gt, ordering_reverse}
 use Rattle.std.specs.declared.cmp.Ordering.TheVariants.{Less}
 use Rattle.etp_theory.specs.Trees.{Shape, leaf, fork, shape_ops, shape_leaves}
 use Rattle.etp_theory.specs.Orders.{shape_cmp}
+use Rattle.etp_theory.proofs.Comparing.{nat_cmp-less}
 use Rattle.etp_laws.specs.Enumeration.{pairs_from, shapes, laws_at, laws_of}
 use Rattle.etp_laws.specs.Places.{words_count, shape_rank, block_start_by, block_start, laws_below}
-use Rattle.etp_term.proofs.Shapes.{shape_total}
+use Rattle.etp_theory.proofs.Orders.{shape_order}
 use Rattle.etp_laws.proofs.Rising.{In}
 use Rattle.etp_laws.proofs.Pairs.{shape_cmp-ops, pairs_are, AreShapes-shapes}
 use Rattle.etp_laws.proofs.Blocks.{length-laws_at-less, leaves_together}
@@ -32,9 +32,6 @@ all_less m (s ∷ ss) h =
     more : (a b : ℕ) → b + a * b ≡ suc a * b
     more a b = grind arith
 
-nat_less : (x y : ℕ) → x < y → nat_cmp x y ≡ Less
-nat_less x y l = grind (arith, nat_tests)
-
 -- before two shapes whose left one has fewer operations stand only such ones
 before_less : (a b : Shape) (before : List (Shape × Shape)) → Split (pairs_from shapes (shape_ops a + shape_ops b)) before (a, b) → ((q : Shape × Shape) → In q before → shape_ops q.0 ≤ shape_ops a) → shape_ops a < shape_ops b → (q : Shape × Shape) → In q before → (shape_cmp q.0 q.1 ≡ Less) × (shape_leaves q.0 + shape_leaves q.1 ≡ shape_ops a + shape_ops b + 2)
 before_less a b before split left h q k =
@@ -51,7 +48,7 @@ unequal a b h =
     record {
       before = p.before;
       split = p.split;
-      long = all_less (n + 2) p.before (before_less a b p.before p.split p.left h) ∙ ap (λ m. m * words_count (n + 2) 0) p.long ∙ ap (λ o. block_start_by o (shape_ops a) (shape_ops b) (shape_rank a) (shape_rank b)) (sym (nat_less (shape_ops a) (shape_ops b) h));
+      long = all_less (n + 2) p.before (before_less a b p.before p.split p.left h) ∙ ap (λ m. m * words_count (n + 2) 0) p.long ∙ ap (λ o. block_start_by o (shape_ops a) (shape_ops b) (shape_rank a) (shape_rank b)) (sym (nat_cmp-less (shape_ops a) (shape_ops b) h));
     }
 
 -- the shapes of one operation, and of two
@@ -106,7 +103,7 @@ block_before a b small g = by_cases (cases_order (shape_ops a) (shape_ops b))
     by_cases (inl e) =
         equal (shape_ops a) a b (omega arith) ((AreShapes-shapes (shape_ops a)).complete (shape_ops a) a (omega arith) refl) ((AreShapes-shapes (shape_ops a)).complete (shape_ops a) b (omega arith) (sym e)) g
     by_cases (inr (inl l)) = unequal a b l
-    by_cases (inr (inr l)) = absurd (true≢false (sym (ap is_gt (shape_total.antisymm a b ∙ ap ordering_reverse (shape_cmp-ops b a l))) ∙ g))
+    by_cases (inr (inr l)) = absurd (true≢false (sym (ap is_gt (shape_order.antisymm a b ∙ ap ordering_reverse (shape_cmp-ops b a l))) ∙ g))
 
 pub laws_below_are : (n : ℕ) → n ≤ 5 → length (flat_map laws_of (range_with_len 0 n)) ≡ laws_below n
 laws_below_are zero h = refl

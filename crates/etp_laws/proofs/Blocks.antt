@@ -12,7 +12,7 @@ use Rattle.etp_theory.specs.Trees.{Shape, leaf, fork, shape_of, shape_leaves, sh
 use Rattle.etp_theory.specs.Orders.{shape_cmp}
 use Rattle.etp_laws.specs.Occurrences.{by_occurrence}
 use Rattle.etp_laws.specs.Enumeration.{filled, words, pairs_from, shapes, same_tree, is_first_reading, is_listed, is_kept, law_at, laws_at, laws_of, laws_upto}
-use Rattle.etp_term.proofs.Shapes.{shape_cmp-equal, shape_ops-shape_of}
+use Rattle.etp_theory.proofs.Orders.{shape_equal, shape_counts}
 use Rattle.etp_laws.proofs.Canonical.{cases_Ordering}
 use Rattle.etp_laws.proofs.Rising.{In, All-from_in}
 use Rattle.etp_laws.proofs.Pairs.{pairs_are, AreShapes-shapes}
@@ -50,7 +50,7 @@ shape_leaves-ops leaf = refl
 shape_leaves-ops (fork a b) = let x = shape_leaves-ops a in let y = shape_leaves-ops b in omega arith
 
 pub ops-filled : (s : Shape) (w : List ℕ) → ops (filled s w) ≡ shape_ops s
-ops-filled s w = sym (shape_ops-shape_of (filled s w)) ∙ ap shape_ops (shape_of-filled s w)
+ops-filled s w = sym (shape_counts (filled s w)) ∙ ap shape_ops (shape_of-filled s w)
 
 pub order_at : (s : Shape × Shape) (w : List ℕ) → shape_cmp (shape_of (law_at s w).left) (shape_of (law_at s w).right) ≡ shape_cmp s.0 s.1
 order_at s w = λ i. shape_cmp (shapes_of-law_at s w i).0 (shapes_of-law_at s w i).1
@@ -93,7 +93,7 @@ pub laws_at-equal : (s : Shape × Shape) → shape_cmp s.0 s.1 ≡ Equal → law
 laws_at-equal s e =
     let n = shape_leaves s.0 + shape_leaves s.1 in
     filter_map_by is_listed (is_kept (shape_leaves s.0)) (law_at s) (words n 0)
-    (λ w k. ap (λ o. is_first_reading o (law_at s w)) (order_at s w ∙ e) ∙ kept_at s w (shape_cmp-equal s.0 s.1 e) (words_are n 0 w k).1)
+    (λ w k. ap (λ o. is_first_reading o (law_at s w)) (order_at s w ∙ e) ∙ kept_at s w (shape_equal s.0 s.1 e) (words_are n 0 w k).1)
 
 -- how many laws two shapes give
 size_by : Ordering → Shape × Shape → ℕ

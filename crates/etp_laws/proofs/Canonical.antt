@@ -1,8 +1,8 @@
-use Rattle.std.proofs.Common.{◌≡◌, ℕ, ◌⊎◌, inl, inr, ◌++◌, List, [], ◌∷◌, map, refl, sym, ◌∙◌, ap, subst, arith, false}
+use Rattle.std.proofs.Common.{◌≡◌, ℕ, ◌⊎◌, inl, inr, ◌++◌, List, map, refl, sym, ◌∙◌, ap, subst, arith, false}
 use Rattle.std.proofs.lemmas.Bool.{true≢false}
-use Rattle.std.proofs.lemmas.Bool.Decides.{nat_tests}
 use Rattle.std.proofs.lemmas.Cmp.{tied_itself, upto, nat_list_cmp_total}
 use Rattle.std.proofs.lemmas.List.{map-append}
+use Rattle.std.proofs.lemmas.Map.Lookups.{exact_bytes}
 use Rattle.std.specs.Cmp.Lexicographic.{slice_cmp}
 use Rattle.std.specs.Ordering.{nat_cmp, ordering_then, ordering_reverse, is_gt}
 use Rattle.std.specs.declared.cmp.Ordering.{Ordering}
@@ -10,10 +10,12 @@ use Rattle.std.specs.declared.cmp.Ordering.TheVariants.{Less, Equal, Greater}
 use Rattle.etp_theory.specs.Orders.{shape_cmp, law_cmp}
 use Rattle.etp_theory.specs.Sameness.{IsInjective, Same}
 use Rattle.etp_theory.specs.Trees.{Tree, var, op, Shape, fork, Equation, shape_of, word_of, law_word, shape_ops, ops, law_ops, renamed, law_renamed, exchanged}
+use Rattle.etp_theory.proofs.Comparing.{nat_cmp-equal}
+use Rattle.etp_theory.proofs.Sameness.{renamed_not}
 use Rattle.etp_laws.specs.Listing.{Listed}
 use Rattle.etp_laws.specs.Occurrences.{by_occurrence}
 use Rattle.etp_laws.specs.Canonical.{IsCanonical}
-use Rattle.etp_term.proofs.Shapes.{shape_total, shape_cmp-equal, shape_ops-shape_of}
+use Rattle.etp_theory.proofs.Orders.{shape_order, shape_equal, shape_counts}
 use Rattle.etp_laws.proofs.Occurrences.{renaming_by_occurrence, by_occurrence_least, by_occurrence-map}
 
 pub cases_Ordering : (o : Ordering) → (o ≡ Less) ⊎ ((o ≡ Equal) ⊎ (o ≡ Greater))
@@ -33,22 +35,12 @@ word_of-renamed f (op l r) = (λ i. word_of-renamed f l i ++ word_of-renamed f r
 pub law_word-renamed : (f : ℕ → ℕ) (p : Equation) → law_word (law_renamed f p) ≡ map f (law_word p)
 law_word-renamed f p = word_of-renamed f (op p.left p.right)
 
-pub renamed-same : (t : Tree) → renamed (λ x. x) t ≡ t
-renamed-same (var v) = refl
-renamed-same (op l r) = λ i. op (renamed-same l i) (renamed-same r i)
-
 -- equal shapes have equal numbers of operations
 pub ops-shape_of : (t u : Tree) → shape_of t ≡ shape_of u → ops t ≡ ops u
-ops-shape_of t u e = sym (shape_ops-shape_of t) ∙ ap shape_ops e ∙ shape_ops-shape_of u
-
-nat_cmp-equal : (a b : ℕ) → a ≡ b → nat_cmp a b ≡ Equal
-nat_cmp-equal a b e = grind (arith, nat_tests)
-
-nat_cmp-is : (a b : ℕ) → nat_cmp a b ≡ Equal → a ≡ b
-nat_cmp-is a b e = grind (arith, nat_tests)
+ops-shape_of t u e = sym (shape_counts t) ∙ ap shape_ops e ∙ shape_counts u
 
 shape_cmp-same : (s t : Shape) → s ≡ t → shape_cmp s t ≡ Equal
-shape_cmp-same s t e = ap (shape_cmp s) (sym e) ∙ tied_itself shape_total s
+shape_cmp-same s t e = ap (shape_cmp s) (sym e) ∙ tied_itself shape_order s
 
 -- laws of one pair of shapes are ordered by their words
 pub law_cmp-word : (p q : Equation) → shape_of p.left ≡ shape_of q.left → shape_of p.right ≡ shape_of q.right → law_cmp p q ≡ slice_cmp nat_cmp (law_word p) (law_word q)
@@ -60,26 +52,12 @@ law_cmp-word p q e h =
     (ordering_then (shape_cmp-same (shape_of p.right) (shape_of q.right) h i)
     (slice_cmp nat_cmp (law_word p) (law_word q)))))
 
-pub slice_cmp-equal : (xs ys : List ℕ) → slice_cmp nat_cmp xs ys ≡ Equal → xs ≡ ys
-slice_cmp-equal [] [] e = refl
-slice_cmp-equal [] (y ∷ ys) e = cc
-slice_cmp-equal (x ∷ xs) [] e = cc
-slice_cmp-equal (x ∷ xs) (y ∷ ys) e =
-    let h = then_both (nat_cmp x y) (slice_cmp nat_cmp xs ys) e in
-    let a = nat_cmp-is x y h.0 in
-    let b = slice_cmp-equal xs ys h.1 in cc
-  where
-    then_both : (a b : Ordering) → ordering_then a b ≡ Equal → (a ≡ Equal) × (b ≡ Equal)
-    then_both Less b e = cc
-    then_both Equal b e = (refl, e)
-    then_both Greater b e = cc
-
 less_or_same : (xs ys : List ℕ) → is_gt (slice_cmp nat_cmp xs ys) ≡ false → (slice_cmp nat_cmp xs ys ≡ Less) ⊎ (xs ≡ ys)
 less_or_same xs ys h = by_cases (cases_Ordering (slice_cmp nat_cmp xs ys))
   where
     by_cases : ((slice_cmp nat_cmp xs ys ≡ Less) ⊎ ((slice_cmp nat_cmp xs ys ≡ Equal) ⊎ (slice_cmp nat_cmp xs ys ≡ Greater))) → (slice_cmp nat_cmp xs ys ≡ Less) ⊎ (xs ≡ ys)
     by_cases (inl e) = inl e
-    by_cases (inr (inl e)) = inr (slice_cmp-equal xs ys e)
+    by_cases (inr (inl e)) = inr (exact_bytes xs ys e)
     by_cases (inr (inr e)) = absurd (true≢false (sym (ap is_gt e) ∙ h))
 
 not_below : (xs ys : List ℕ) → is_gt (slice_cmp nat_cmp ys xs) ≡ false → slice_cmp nat_cmp xs ys ≡ Less → ⊥
@@ -122,8 +100,8 @@ canonical_from_listed p listed = record {
     ordered (inr (inl e)) = ap is_gt e
     ordered (inr (inr e)) =
         absurd (listed.first (exchanged p)
-        (earlier_exchanged p (exchanged p) refl refl ∙ ap (λ o. ordering_then o (ordering_then (shape_cmp (shape_of p.left) (shape_of p.right)) (slice_cmp nat_cmp (law_word (exchanged p)) (law_word p)))) (shape_total.antisymm (shape_of p.right) (shape_of p.left) ∙ ap ordering_reverse e))
-        ((λ x. x), (λ x y e. e), inr (λ i. record { left = renamed-same p.left i; right = renamed-same p.right i })))
+        (earlier_exchanged p (exchanged p) refl refl ∙ ap (λ o. ordering_then o (ordering_then (shape_cmp (shape_of p.left) (shape_of p.right)) (slice_cmp nat_cmp (law_word (exchanged p)) (law_word p)))) (shape_order.antisymm (shape_of p.right) (shape_of p.left) ∙ ap ordering_reverse e))
+        ((λ x. x), (λ x y e. e), inr (λ i. record { left = renamed_not p.left i; right = renamed_not p.right i })))
 
     least : shape_of p.left ≡ shape_of p.right → ((slice_cmp nat_cmp (law_word p) (by_occurrence (law_word (exchanged p))) ≡ Less) ⊎ ((slice_cmp nat_cmp (law_word p) (by_occurrence (law_word (exchanged p))) ≡ Equal) ⊎ (slice_cmp nat_cmp (law_word p) (by_occurrence (law_word (exchanged p))) ≡ Greater))) → is_gt (slice_cmp nat_cmp (law_word p) (by_occurrence (law_word (exchanged p)))) ≡ false
     least s (inl e) = ap is_gt e
@@ -148,12 +126,12 @@ listed_from_canonical p c = record { sides = c.sides; first = none }
     other : (f : ℕ → ℕ) → IsInjective f → law_cmp (law_renamed f (exchanged p)) p ≡ Less → ((shape_cmp (shape_of p.left) (shape_of p.right) ≡ Less) ⊎ ((shape_cmp (shape_of p.left) (shape_of p.right) ≡ Equal) ⊎ (shape_cmp (shape_of p.left) (shape_of p.right) ≡ Greater))) → ⊥
     other f inj e (inr (inr h)) = true≢false (sym (ap is_gt h) ∙ c.shapes)
     other f inj e (inl h) =
-        let g : shape_cmp (shape_of p.right) (shape_of p.left) ≡ Greater = shape_total.antisymm (shape_of p.right) (shape_of p.left) ∙ ap ordering_reverse h in
+        let g : shape_cmp (shape_of p.right) (shape_of p.left) ≡ Greater = shape_order.antisymm (shape_of p.right) (shape_of p.left) ∙ ap ordering_reverse h in
         let k = earlier_exchanged p (law_renamed f (exchanged p)) (shape_of-renamed f p.right) (shape_of-renamed f p.left) in
         let m = ap (λ o. ordering_then o (ordering_then (shape_cmp (shape_of p.left) (shape_of p.right)) (slice_cmp nat_cmp (law_word (law_renamed f (exchanged p))) (law_word p)))) g in
         let both : Less ≡ Greater = sym e ∙ k ∙ m in cc
     other f inj e (inr (inl h)) =
-        let s = shape_cmp-equal (shape_of p.left) (shape_of p.right) h in
+        let s = shape_equal (shape_of p.left) (shape_of p.right) h in
         let w = law_word (exchanged p) in
         not_below (map f w) (law_word p)
         (upto nat_list_cmp_total (law_word p) (by_occurrence w) (map f w) (c.words s) (by_occurrence_below f inj w))

@@ -3,26 +3,28 @@ use Rattle.std.proofs.Common.{◌≡◌, ◌≢◌, ℕ, ◌-◌, ◌<◌, ◌�
 use Rattle.std.proofs.lemmas.Bool.{cases_order}
 use Rattle.std.proofs.lemmas.Cmp.{tied_itself}
 use Rattle.std.proofs.lemmas.List.{length-map, get_or-map}
-use Rattle.std.proofs.lemmas.Option.{slice_get-get_or, slice_get_within, slice_get_cases, slice_get_past, get_or_from_slice_get}
+use Rattle.std.proofs.lemmas.Option.{slice_get-get_or, slice_get_within, slice_get_cases, slice_get_past, get_or_from_slice_get, same_Some}
 use Rattle.std.specs.Option.{MatchOption}
 use Rattle.std.specs.List.{slice_get}
 use Rattle.std.specs.List.Sorted.{IsStrictlySortedBy}
 use Rattle.std.specs.Cmp.{IsTotalOrder}
 use Rattle.std.specs.declared.cmp.Ordering.{Ordering}
-use Rattle.std.specs.declared.cmp.Ordering.TheVariants.{Less, Equal}
+use Rattle.std.specs.declared.cmp.Ordering.TheVariants.{Less}
 use Rattle.etp_theory.specs.Trees.{Equation, law_ops, law_dual, dual}
 use Rattle.etp_theory.specs.Orders.{law_cmp}
 use Rattle.etp_theory.specs.Sameness.{Same}
 use Rattle.etp_laws.specs.Listing.{Listed, IsTheList, reflexive_law}
 use Rattle.etp_theory.specs.LawNumbers.{IsLaw, IsOwnInverse, law_numbered, dual_number}
+use Rattle.etp_theory.proofs.Comparing.{less_not_equal}
+use Rattle.etp_theory.proofs.Trees.{dual_dual}
 use Rattle.etp_laws.specs.LawLists.{LawList, IsNumberOf, HasNumber, IsDualOf, AreDuals}
 use Rattle.etp_laws.specs.Enumeration.{laws_upto}
 use Rattle.etp_laws.specs.Places.{number_of, dual_numbers}
-use Rattle.etp_term.proofs.Shapes.{law_total}
+use Rattle.etp_theory.proofs.Orders.{law_order}
 use Rattle.etp_laws.proofs.Rising.{each}
 use Rattle.etp_laws.proofs.Blocks.{In-at}
 use Rattle.etp_laws.proofs.Readings.{Listed-unique}
-use Rattle.etp_laws.proofs.Duals.{dual-dual, law_ops-dual, dual_of_dual}
+use Rattle.etp_laws.proofs.Duals.{law_ops-dual, dual_of_dual}
 use Rattle.etp_laws.proofs.Entries.{the_laws, the_duals, entry_after, entry_zero, Listed-entry, small_entry}
 use Rattle.etp_laws.proofs.TheList.{laws_upto_is}
 use Rattle.etp_laws.proofs.LawPlaces.{number_is}
@@ -33,9 +35,6 @@ later_greater R [] i j d r l h = absurd (omega arith)
 later_greater R (x ∷ xs) i zero d r l h = absurd (omega arith)
 later_greater R (x ∷ xs) zero (suc j) d r l h = each (λ u. R x u ≡ Less) xs r.0 (get_or xs j d) (In-at xs j d (omega arith))
 later_greater R (x ∷ xs) (suc i) (suc j) d r l h = later_greater R xs i j d r.1 (omega arith) (omega arith)
-
-less_not_equal : Less ≡ Equal → ⊥
-less_not_equal e = cc
 
 -- an element stands in a rising list once
 once : {X : Type 0} (R : X → X → Ordering) → IsTotalOrder R → (xs : List X) (i j : ℕ) (x : X) → IsStrictlySortedBy R xs → i < length xs → j < length xs → get_or xs i x ≡ x → get_or xs j x ≡ x → i ≡ j
@@ -73,7 +72,7 @@ one_number k xs n m e l a b =
     let x = stands xs n e a in
     let y = stands xs m e b in
     let p = x.some in let q = y.some in let r = x.within in let s = y.within in
-    let same = once law_cmp law_total xs (n - 1) (m - 1) e l.rising (omega arith) (omega arith) x.at y.at in
+    let same = once law_cmp law_order xs (n - 1) (m - 1) e l.rising (omega arith) (omega arith) x.at y.at in
     omega arith
 
 pub one_number_of : (k : ℕ) (xs : List Equation) (p : Equation) (n m : ℕ) → IsTheList k xs → IsNumberOf xs p n → IsNumberOf xs p m → n ≡ m
@@ -86,7 +85,7 @@ HasNumber-dual : (e : Equation) → Listed e → HasNumber (law_dual e)
 HasNumber-dual e listed = by_sides listed.sides
   where
     by_sides : ((e.left ≢ e.right) ⊎ (e ≡ reflexive_law)) → HasNumber (law_dual e)
-    by_sides (inl n) = inl (λ h. n (sym (dual-dual e.left) ∙ ap dual h ∙ dual-dual e.right))
+    by_sides (inl n) = inl (λ h. n (sym (dual_dual e.left) ∙ ap dual h ∙ dual_dual e.right))
     by_sides (inr t) = inr (0, ap (λ (q : Equation). dual q.left) t, ap (λ (q : Equation). dual q.right) t)
 
 module _ (k : ℕ) (small : k ≤ 5) (xs : List Equation) (is : xs ≡ laws_upto k) (ds : List ℕ) (duals : ds ≡ dual_numbers xs) where
@@ -130,12 +129,9 @@ module _ (k : ℕ) (small : k ≤ 5) (xs : List Equation) (is : xs ≡ laws_upto
         back n (dual_number ds n) (dual_number ds (dual_number ds n)) a b;
   }
     where
-      some_entry : (x y : Equation) → Some x ≡ Some y → x ≡ y
-      some_entry x y e = cc
-
       back : (n m l : ℕ) → IsDualOf xs n m → IsDualOf xs m l → l ≡ n
       back n m l a b =
-          let middle : b.law ≡ a.number.entry = some_entry b.law a.number.entry (sym b.stands ∙ a.number.stands) in
+          let middle : b.law ≡ a.number.entry = same_Some b.law a.number.entry (sym b.stands ∙ a.number.stands) in
           let e = dual_of_dual a.law a.number.entry b.number.entry (Listed-entry k xs n a.law the_list a.stands) (Listed-entry k xs l b.number.entry the_list b.number.stands) a.number.same (subst (λ q. Same (law_dual q) b.number.entry) middle b.number.same) in
           one_number k xs l n a.law the_list (b.number.stands ∙ ap Some e) a.stands
 

@@ -3,7 +3,7 @@ use Rattle.std.proofs.Common.{◌≡◌, ℕ, zero, suc, refl, ◌-◌, ◌<◌,
 use Rattle.std.proofs.Math.Logic.{∥∥₁_elim}
 use Rattle.std.proofs.lemmas.Bool.{cases_lt}
 use Rattle.std.proofs.lemmas.List.Elements.{All-contains}
-use Rattle.std.proofs.lemmas.Option.{slice_get_cases}
+use Rattle.std.proofs.lemmas.Option.{slice_get_cases, none-some}
 use Rattle.std.specs.List.{slice_get}
 use Rattle.std.specs.Coded.{Coded-set, coded_list, coded_ℕ}
 use Rattle.etp_theory.specs.Trees.{Equation, law_ops}
@@ -49,9 +49,6 @@ pub entry_zero : (xs : List Equation) (n : ℕ) → n ≡ 0 → law_numbered xs 
 entry_zero xs zero h = refl
 entry_zero xs (suc k) h = absurd (omega (arith, h))
 
-some_none : {X : Type 0} (x : X) → Some x ≡ None → ⊥
-some_none x e = cc
-
 pub Contains-entry : (xs : List Equation) (n : ℕ) (e : Equation) → law_numbered xs n ≡ Some e → Contains xs e
 Contains-entry xs n e h = by_cases (cases_lt 0 n)
   where
@@ -60,11 +57,11 @@ Contains-entry xs n e h = by_cases (cases_lt 0 n)
         let same : Some x ≡ Some e = sym is ∙ sym (entry_after xs n l) ∙ h in
         let eq : x ≡ e = cc in
         (n - 1, inside, (λ i. get_or xs (n - 1) (sym eq i)) ∙ at ∙ eq)
-    by_place l (inr (past, is)) = absurd (some_none e (sym h ∙ entry_after xs n l ∙ is))
+    by_place l (inr (past, is)) = absurd (none-some e (sym (sym h ∙ entry_after xs n l ∙ is)))
 
     by_cases : (0 < n) ⊎ (n ≤ 0) → Contains xs e
     by_cases (inl l) = by_place l (slice_get_cases xs (n - 1)).1
-    by_cases (inr l) = absurd (some_none e (sym h ∙ entry_zero xs n (omega arith)))
+    by_cases (inr l) = absurd (none-some e (sym (sym h ∙ entry_zero xs n (omega arith))))
 
 pub Listed-entry : (k : ℕ) (xs : List Equation) (n : ℕ) (e : Equation) → IsTheList k xs → law_numbered xs n ≡ Some e → Listed e
 Listed-entry k xs n e l h = All-contains Listed xs e l.sound (Contains-entry xs n e h)

@@ -10,7 +10,7 @@ use Rattle.std.specs.declared.cmp.Ordering.TheVariants.{Less, Greater}
 use Rattle.etp_theory.specs.Orders.{shape_cmp}
 use Rattle.etp_theory.specs.Trees.{Shape, leaf, fork, shape_ops}
 use Rattle.etp_laws.specs.Enumeration.{pairs_from, joined, shapes}
-use Rattle.etp_term.proofs.Shapes.{shape_total}
+use Rattle.etp_theory.proofs.Orders.{shape_order}
 use Rattle.etp_laws.proofs.Rising.{In, In-map, In-map_source, Rising-map, each}
 use Rattle.etp_laws.proofs.Pairs.{pair_cmp, pairs_are, In-pairs, Rising-pairs, AreShapes-shapes}
 
@@ -61,7 +61,7 @@ rising_unique R o (x ∷ xs) (y ∷ ys) a b to from =
 -- the shapes of one operation more, from the pairs
 pub joined_pairs : (n : ℕ) → map joined (pairs_from shapes n) ≡ shapes (n + 1)
 joined_pairs n =
-    rising_unique shape_cmp shape_total (map joined (pairs_from shapes n)) (shapes (n + 1))
+    rising_unique shape_cmp shape_order (map joined (pairs_from shapes n)) (shapes (n + 1))
     (Rising-map pair_cmp shape_cmp joined (pairs_from shapes n) (Rising-pairs shapes n (AreShapes-shapes n)) (λ x y a b e. e))
     ((AreShapes-shapes (n + 1)).rising (n + 1) (omega arith))
     (λ s h. let r = In-map_source joined s (pairs_from shapes n) h in

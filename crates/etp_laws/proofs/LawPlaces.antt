@@ -10,15 +10,16 @@ use Rattle.std.specs.declared.cmp.Ordering.TheVariants.{Less, Equal, Greater}
 use Rattle.etp_theory.specs.Trees.{var, op, Shape, leaf, Equation, shape_of, shape_ops, shape_leaves, law_word, law_ops, exchanged}
 use Rattle.etp_theory.specs.Orders.{shape_cmp}
 use Rattle.etp_theory.specs.Sameness.{Same}
+use Rattle.etp_theory.proofs.Comparing.{less_not_equal}
+use Rattle.etp_term.proofs.WordOrder.{length-word_of}
 use Rattle.etp_laws.specs.Listing.{Listed, reflexive_law}
 use Rattle.etp_laws.specs.LawLists.{IsNumberOf, HasNumber}
 use Rattle.etp_laws.specs.Occurrences.{by_occurrence}
 use Rattle.etp_laws.specs.Enumeration.{pairs_from, shapes, is_listed, law_at, laws_at, laws_of, laws_upto}
 use Rattle.etp_laws.specs.Places.{shape_rank, place_in_block, place_at, lesser, place_by, number_of}
-use Rattle.etp_term.proofs.Shapes.{shape_total, shape_cmp-equal, shape_ops-shape_of}
+use Rattle.etp_theory.proofs.Orders.{shape_order, shape_equal, shape_counts}
 use Rattle.etp_laws.proofs.Occurrences.{moved, moved-injective, by_occurrence-map}
 use Rattle.etp_laws.proofs.Canonical.{cases_Ordering, canonical_from_listed, listed_from_canonical}
-use Rattle.etp_laws.proofs.WordLemmas.{length-word_of}
 use Rattle.etp_laws.proofs.TheList.{law_at-shapes_of, test_from_canonical}
 use Rattle.etp_laws.proofs.Readings.{reading_of, left_shape, right_shape, canonical_reading, law_ops-reading}
 use Rattle.etp_laws.proofs.ReflexiveLaw.{Listed-reflexive_law, lone_same}
@@ -26,7 +27,7 @@ use Rattle.etp_laws.proofs.Variables.{growing}
 use Rattle.etp_laws.proofs.Entries.{entry_after}
 use Rattle.etp_laws.proofs.Blocks.{shape_leaves-ops}
 use Rattle.etp_laws.proofs.Splits.{Split, Split-flat_map, Split-range, Split-get}
-use Rattle.etp_laws.proofs.ShapePlaces.{shape_order}
+use Rattle.etp_laws.proofs.ShapePlaces.{shape_cmp-ranks}
 use Rattle.etp_laws.proofs.BlockPlaces.{BlockBefore, block_before, laws_below_are}
 use Rattle.etp_laws.proofs.WordPlaces.{LawBefore, law_before}
 
@@ -42,7 +43,7 @@ law_place k e listed h small = subst (λ i. slice_get (laws_upto k) i ≡ Some e
     n = shape_ops (shape_of e.left) + shape_ops (shape_of e.right)
 
     count : n ≡ law_ops e
-    count = λ i. shape_ops-shape_of e.left i + shape_ops-shape_of e.right i
+    count = λ i. shape_counts e.left i + shape_counts e.right i
 
     block : BlockBefore (shape_of e.left) (shape_of e.right)
     block = block_before (shape_of e.left) (shape_of e.right) (let c = count in omega arith) (canonical_from_listed e listed).shapes
@@ -61,7 +62,7 @@ law_place k e listed h small = subst (λ i. slice_get (laws_upto k) i ≡ Some e
         (Split-flat_map laws_at (pairs_from shapes n) block.before s place.before e block.split (subst (λ q. Split (laws_at s) place.before q) itself place.split))
 
     inside : place_in_block (shape_cmp (shape_of e.left) (shape_of e.right)) (shape_leaves (shape_of e.left)) (law_word e) ≡ place_in_block (ordering_then (nat_cmp (shape_ops (shape_of e.left)) (shape_ops (shape_of e.right))) (nat_cmp (shape_rank (shape_of e.left)) (shape_rank (shape_of e.right)))) (shape_ops (shape_of e.left) + 1) (law_word e)
-    inside = λ i. place_in_block (sym (shape_order (shape_of e.left) (shape_of e.right)) i) (shape_leaves-ops (shape_of e.left) i) (law_word e)
+    inside = λ i. place_in_block (sym (shape_cmp-ranks (shape_of e.left) (shape_of e.right)) i) (shape_leaves-ops (shape_of e.left) i) (law_word e)
 
     long : length (flat_map laws_of (range_with_len 0 n) ++ (flat_map laws_at block.before ++ place.before)) ≡ place_at (shape_of e.left) (shape_of e.right) (law_word e)
     long =
@@ -75,9 +76,6 @@ record Found (p : Equation) : Type 0 where
   same : Same p entry
   ops : law_ops entry ≡ law_ops p
   place : place_at (shape_of entry.left) (shape_of entry.right) (law_word entry) ≡ place_by (shape_cmp (shape_of p.left) (shape_of p.right)) p
-
-less_not_equal : Less ≡ Equal → ⊥
-less_not_equal e = cc
 
 greater_not_equal : Greater ≡ Equal → ⊥
 greater_not_equal e = cc
@@ -107,7 +105,7 @@ module _ (p : Equation) (n : p.left ≢ p.right) where
       }
 
   back : (s t : Shape) (o : Ordering) → shape_cmp s t ≡ o → shape_cmp t s ≡ ordering_reverse o
-  back s t o e = shape_total.antisymm t s ∙ ap ordering_reverse e
+  back s t o e = shape_order.antisymm t s ∙ ap ordering_reverse e
 
   first : shape_cmp (shape_of p.left) (shape_of p.right) ≡ Equal → is_gt (slice_cmp nat_cmp (by_occurrence (law_word p)) (by_occurrence (law_word (exchanged p)))) ≡ false → Found p
   first e g =
@@ -118,15 +116,15 @@ module _ (p : Equation) (n : p.left ≢ p.right) where
   by_words e (inl w) = first e (ap is_gt w)
   by_words e (inr (inl w)) = first e (ap is_gt w)
   by_words e (inr (inr w)) =
-      let s = shape_cmp-equal (shape_of p.left) (shape_of p.right) e in
+      let s = shape_equal (shape_of p.left) (shape_of p.right) e in
       turned (ap is_gt (back (shape_of p.left) (shape_of p.right) Equal e)) (λ _. ap is_gt (nat_list_cmp_total.antisymm (by_occurrence (law_word (exchanged p))) (by_occurrence (law_word p)) ∙ ap ordering_reverse w))
       ((λ i. place_at (sym s i) (s i) (by_occurrence (law_word (exchanged p))))
       ∙ ap (λ o. place_at (shape_of p.left) (shape_of p.right) (cond (is_gt o) (by_occurrence (law_word (exchanged p))) (by_occurrence (law_word p)))) (sym w) ∙ ap (λ o. place_by o p) (sym e))
 
   by_shapes : ((shape_cmp (shape_of p.left) (shape_of p.right) ≡ Less) ⊎ ((shape_cmp (shape_of p.left) (shape_of p.right) ≡ Equal) ⊎ (shape_cmp (shape_of p.left) (shape_of p.right) ≡ Greater))) → Found p
-  by_shapes (inl e) = plain (ap is_gt e) (λ h. absurd (less_not_equal (sym e ∙ (λ i. shape_cmp (h i) (shape_of p.right)) ∙ tied_itself shape_total (shape_of p.right)))) (ap (λ o. place_by o p) (sym e))
+  by_shapes (inl e) = plain (ap is_gt e) (λ h. absurd (less_not_equal (sym e ∙ (λ i. shape_cmp (h i) (shape_of p.right)) ∙ tied_itself shape_order (shape_of p.right)))) (ap (λ o. place_by o p) (sym e))
   by_shapes (inr (inl e)) = by_words e (cases_Ordering (slice_cmp nat_cmp (by_occurrence (law_word p)) (by_occurrence (law_word (exchanged p)))))
-  by_shapes (inr (inr e)) = turned (ap is_gt (back (shape_of p.left) (shape_of p.right) Greater e)) (λ h. absurd (greater_not_equal (sym e ∙ (λ i. shape_cmp (sym h i) (shape_of p.right)) ∙ tied_itself shape_total (shape_of p.right)))) (ap (λ o. place_by o p) (sym e))
+  by_shapes (inr (inr e)) = turned (ap is_gt (back (shape_of p.left) (shape_of p.right) Greater e)) (λ h. absurd (greater_not_equal (sym e ∙ (λ i. shape_cmp (sym h i) (shape_of p.right)) ∙ tied_itself shape_order (shape_of p.right)))) (ap (λ o. place_by o p) (sym e))
 
   differing : Found p
   differing = by_shapes (cases_Ordering (shape_cmp (shape_of p.left) (shape_of p.right)))

@@ -25,3 +25,5 @@ pub mod WordRanks
 pub mod PartLemmas
 pub mod DualNumbers
 pub mod LawItems
+pub mod NumberLists
+pub mod SmallLaws

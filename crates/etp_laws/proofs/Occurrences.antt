@@ -6,8 +6,8 @@ use Rattle.std.proofs.lemmas.List.Folds.{position_or_len_push}
 use Rattle.std.specs.Cmp.Lexicographic.{slice_cmp}
 use Rattle.std.specs.Ordering.{nat_cmp, ordering_then, is_gt}
 use Rattle.std.specs.declared.cmp.Ordering.{Ordering}
-use Rattle.std.specs.declared.cmp.Ordering.TheVariants.{Less, Equal}
 use Rattle.etp_theory.specs.Sameness.{IsInjective}
+use Rattle.etp_theory.proofs.Comparing.{nat_cmp-less, nat_cmp-equal}
 use Rattle.etp_laws.specs.Occurrences.{place, seen_after, by_occurrence_after, by_occurrence, Grows}
 
 -- the renaming g gives each variable that was seen its place, and every other one a number from there on
@@ -51,13 +51,7 @@ after_seen seen v h = cond-false _ _ _ (ne_eqb (place seen v) (length seen) (λ 
 pub after_new : (seen : List ℕ) (v : ℕ) → place seen v ≡ length seen → seen_after seen v ≡ seen ++ v ∷ []
 after_new seen v h = cond-true _ _ _ (eq-eqb (place seen v) (length seen) h)
 
-equal_cmp : (a b : ℕ) → a ≡ b → nat_cmp a b ≡ Equal
-equal_cmp a b e = grind (arith, nat_tests)
-
-less_cmp : (a b : ℕ) → a < b → nat_cmp a b ≡ Less
-less_cmp a b e = grind (arith, nat_tests)
-
-zero_min : (y : ℕ) → 0 ≡ min y 0
+pub zero_min : (y : ℕ) → 0 ≡ min y 0
 zero_min y = grind arith
 
 -- the variable that is next in order is new and keeps its name
@@ -134,7 +128,7 @@ by_occurrence_after_least (v ∷ w) seen stage =
     by_cases (by_occurrence_after_least w seen stage) (λ s. by_occurrence_after_least w (seen ++ v ∷ []) s) (cases_order v (length seen))
   where
     same : (a b c : ℕ) (o : Ordering) → a ≡ b → ordering_then (nat_cmp a b) o ≡ o
-    same a b c o e = ap (λ x. ordering_then x o) (equal_cmp a b e)
+    same a b c o e = ap (λ x. ordering_then x o) (nat_cmp-equal a b e)
 
     by_cases : is_gt (slice_cmp nat_cmp (by_occurrence_after seen w) w) ≡ false → (Stage (λ x. x) (seen ++ v ∷ []) → is_gt (slice_cmp nat_cmp (by_occurrence_after (seen ++ v ∷ []) w) w) ≡ false) → ((v ≡ length seen) ⊎ ((v < length seen) ⊎ (length seen < v))) → is_gt (slice_cmp nat_cmp (by_occurrence_after seen (v ∷ w)) (v ∷ w)) ≡ false
     by_cases old new (inl h) =
@@ -147,7 +141,7 @@ by_occurrence_after_least (v ∷ w) seen stage =
         ap is_gt (same (place seen v) v 0 _ at ∙ ap (λ s. slice_cmp nat_cmp (by_occurrence_after s w) w) (after_seen seen v lt)) ∙ old
     by_cases old new (inr (inr h)) =
         let at = place_new (λ x. x) seen v stage (omega arith) in
-        ap (λ o. is_gt (ordering_then o (slice_cmp nat_cmp (by_occurrence_after (seen_after seen v) w) w))) (less_cmp (place seen v) v (omega arith))
+        ap (λ o. is_gt (ordering_then o (slice_cmp nat_cmp (by_occurrence_after (seen_after seen v) w) w))) (nat_cmp-less (place seen v) v (omega arith))
 
 pub by_occurrence_least : (w : List ℕ) → is_gt (slice_cmp nat_cmp (by_occurrence w) w) ≡ false
 by_occurrence_least w = by_occurrence_after_least w [] (λ y. zero_min y)

@@ -1,25 +1,16 @@
 use Rattle.std.proofs.Common.{◌≡◌, ℕ, ◌+◌, ◌-◌, ◌<◌, ◌≤◌, inl, inr, List, map, flat_map, refl, ◌∙◌, ap, suc, zero, arith}
-use Rattle.std.proofs.lemmas.Bool.Decides.{nat_tests}
 use Rattle.std.proofs.lemmas.Cmp.{tied_itself}
 use Rattle.std.specs.List.{range_with_len}
 use Rattle.std.specs.List.Sorted.{IsStrictlySortedBy}
 use Rattle.std.specs.Ordering.{nat_cmp, ordering_then}
 use Rattle.std.specs.declared.cmp.Ordering.{Ordering}
-use Rattle.std.specs.declared.cmp.Ordering.TheVariants.{Less, Equal}
+use Rattle.std.specs.declared.cmp.Ordering.TheVariants.{Less}
 use Rattle.etp_theory.specs.Orders.{shape_cmp}
 use Rattle.etp_theory.specs.Trees.{Shape, leaf, fork, shape_ops}
+use Rattle.etp_theory.proofs.Comparing.{nat_cmp-less, nat_cmp-equal, less_below}
 use Rattle.etp_laws.specs.Enumeration.{pairs_from, joined, shapes_within, shapes}
-use Rattle.etp_term.proofs.Shapes.{shape_total}
+use Rattle.etp_theory.proofs.Orders.{shape_order}
 use Rattle.etp_laws.proofs.Rising.{In, In-map, In-map_source, In-flat_map, In-flat_map_source, In-range, In-range_bounds, Rising-map, Rising-flat_map, Rising-range}
-
-nat_cmp-same : (a b : ℕ) → a ≡ b → nat_cmp a b ≡ Equal
-nat_cmp-same a b e = grind (arith, nat_tests)
-
-nat_cmp-less : (a b : ℕ) → a < b → nat_cmp a b ≡ Less
-nat_cmp-less a b e = grind (arith, nat_tests)
-
-less_below : (a b : ℕ) → nat_cmp a b ≡ Less → a < b
-less_below a b e = grind (arith, nat_tests)
 
 pub shape_cmp-ops : (s t : Shape) → shape_ops s < shape_ops t → shape_cmp s t ≡ Less
 shape_cmp-ops leaf leaf h = absurd (omega arith)
@@ -32,7 +23,7 @@ pair_cmp p q = shape_cmp (joined p) (joined q)
 
 -- pairs of equally many operations are ordered by the left shape, then the right one
 pair_cmp-parts : (a b c d : Shape) → shape_ops a + shape_ops b ≡ shape_ops c + shape_ops d → pair_cmp (a, b) (c, d) ≡ ordering_then (shape_cmp a c) (shape_cmp b d)
-pair_cmp-parts a b c d e = ap (λ o. ordering_then o (ordering_then (shape_cmp a c) (shape_cmp b d))) (nat_cmp-same (shape_ops (fork a b)) (shape_ops (fork c d)) (omega arith))
+pair_cmp-parts a b c d e = ap (λ o. ordering_then o (ordering_then (shape_cmp a c) (shape_cmp b d))) (nat_cmp-equal (shape_ops (fork a b)) (shape_ops (fork c d)) (omega arith))
 
 -- up to n operations, the lists are those of the shapes
 pub record AreShapes (list : ℕ → List Shape) (n : ℕ) : Type 0 where
@@ -75,7 +66,7 @@ module _ (list : ℕ → List Shape) (n : ℕ) (are : AreShapes list n) where
       (are.rising i small)
       (λ a k. Rising-map shape_cmp pair_cmp (λ b. (a, b)) (list (n - i)) (are.rising (n - i) rest)
       (λ b d l m e. let x = are.sound (n - i) b rest l in let y = are.sound (n - i) d rest m in
-      pair_cmp-parts a b a d (omega arith) ∙ ap (λ o. ordering_then o (shape_cmp b d)) (tied_itself shape_total a) ∙ e))
+      pair_cmp-parts a b a d (omega arith) ∙ ap (λ o. ordering_then o (shape_cmp b d)) (tied_itself shape_order a) ∙ e))
       (λ a c p q k l e u v.
       let s = In-map_source (λ b. (a, b)) p (list (n - i)) u in
       let t = In-map_source (λ b. (c, b)) q (list (n - i)) v in

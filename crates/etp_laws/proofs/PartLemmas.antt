@@ -7,7 +7,7 @@ use Rattle.etp_theory.specs.Trees.{Tree, Equation, shape_of, shape_ops, word_of}
 use Rattle.etp_theory.specs.Orders.{shape_cmp}
 use Rattle.etp_laws.specs.Occurrences.{by_occurrence}
 use Rattle.etp_laws.specs.Places.{shape_rank, place_from, place_by, lesser}
-use Rattle.etp_laws.proofs.ShapePlaces.{shape_order}
+use Rattle.etp_laws.proofs.ShapePlaces.{shape_cmp-ranks}
 
 -- what the program knows of a side
 pub record PartsOf (t : Tree) (i x : ℕ) (w : List ℕ) : Type 0 where
@@ -21,7 +21,7 @@ law_of a b = record { left = a; right = b }
 
 module _ (a b : Tree) (i j x y : ℕ) (u w : List ℕ) (l : PartsOf a i x u) (r : PartsOf b j y w) where
   order_is : ordering_then (nat_cmp i j) (nat_cmp x y) ≡ shape_cmp (shape_of a) (shape_of b)
-  order_is = (λ d. ordering_then (nat_cmp (l.ops d) (r.ops d)) (nat_cmp (l.place d) (r.place d))) ∙ shape_order (shape_of a) (shape_of b)
+  order_is = (λ d. ordering_then (nat_cmp (l.ops d) (r.ops d)) (nat_cmp (l.place d) (r.place d))) ∙ shape_cmp-ranks (shape_of a) (shape_of b)
 
   pub less_place : (z : List ℕ) (n : ℕ) (o : Ordering) → o ≡ ordering_then (nat_cmp i j) (nat_cmp x y) → o ≡ Less → z ≡ by_occurrence (u ++ w) → n ≡ place_from i j x y z → n ≡ place_by (shape_cmp (shape_of a) (shape_of b)) (law_of a b)
   less_place z n o eo is ez en =

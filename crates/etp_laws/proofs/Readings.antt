@@ -1,6 +1,7 @@
-use Rattle.std.proofs.Common.{◌≡◌, ◌≢◌, ℕ, ◌+◌, ◌⊎◌, inl, inr, List, [], ◌∷◌, map, refl, sym, ◌∙◌, ap, subst, false}
+use Rattle.std.proofs.Common.{◌≡◌, ◌≢◌, ℕ, ◌+◌, ◌⊎◌, inl, inr, List, refl, sym, ◌∙◌, ap, subst, false}
 use Rattle.std.proofs.lemmas.Bool.{true≢false}
 use Rattle.std.proofs.lemmas.Cmp.{nat_list_cmp_total}
+use Rattle.std.proofs.lemmas.Map.Lookups.{exact_bytes}
 use Rattle.std.specs.Cmp.Lexicographic.{slice_cmp}
 use Rattle.std.specs.Ordering.{nat_cmp, ordering_reverse, is_gt}
 use Rattle.std.specs.declared.cmp.Ordering.TheVariants.{Less, Equal, Greater}
@@ -11,9 +12,9 @@ use Rattle.etp_laws.specs.Enumeration.{law_at}
 use Rattle.etp_laws.specs.Listing.{Listed}
 use Rattle.etp_laws.specs.Occurrences.{by_occurrence}
 use Rattle.etp_laws.specs.Canonical.{IsCanonical}
-use Rattle.etp_term.proofs.Shapes.{shape_total, shape_cmp-equal}
+use Rattle.etp_theory.proofs.Orders.{shape_order, shape_equal}
 use Rattle.etp_laws.proofs.Occurrences.{renaming_by_occurrence, by_occurrence-map, by_occurrence-by_occurrence}
-use Rattle.etp_laws.proofs.Canonical.{cases_Ordering, shape_of-renamed, law_word-renamed, ops-shape_of, slice_cmp-equal, canonical_from_listed}
+use Rattle.etp_laws.proofs.Canonical.{cases_Ordering, shape_of-renamed, law_word-renamed, ops-shape_of, canonical_from_listed}
 use Rattle.etp_laws.proofs.TheList.{law_at-shapes_of}
 
 pub renamed-injective : (f : ℕ → ℕ) → IsInjective f → (t u : Tree) → renamed f t ≡ renamed f u → t ≡ u
@@ -65,15 +66,15 @@ both_ways xs ys h k = one (cases_Ordering (slice_cmp nat_cmp xs ys))
   where
     one : ((slice_cmp nat_cmp xs ys ≡ Less) ⊎ ((slice_cmp nat_cmp xs ys ≡ Equal) ⊎ (slice_cmp nat_cmp xs ys ≡ Greater))) → xs ≡ ys
     one (inl e) = absurd (true≢false (sym (ap is_gt (nat_list_cmp_total.antisymm ys xs ∙ ap ordering_reverse e)) ∙ k))
-    one (inr (inl e)) = slice_cmp-equal xs ys e
+    one (inr (inl e)) = exact_bytes xs ys e
     one (inr (inr e)) = absurd (true≢false (sym (ap is_gt e) ∙ h))
 
 both_shapes : (s t : Shape) → is_gt (shape_cmp s t) ≡ false → is_gt (shape_cmp t s) ≡ false → s ≡ t
 both_shapes s t h k = one (cases_Ordering (shape_cmp s t))
   where
     one : ((shape_cmp s t ≡ Less) ⊎ ((shape_cmp s t ≡ Equal) ⊎ (shape_cmp s t ≡ Greater))) → s ≡ t
-    one (inl e) = absurd (true≢false (sym (ap is_gt (shape_total.antisymm t s ∙ ap ordering_reverse e)) ∙ k))
-    one (inr (inl e)) = shape_cmp-equal s t e
+    one (inl e) = absurd (true≢false (sym (ap is_gt (shape_order.antisymm t s ∙ ap ordering_reverse e)) ∙ k))
+    one (inr (inl e)) = shape_equal s t e
     one (inr (inr e)) = absurd (true≢false (sym (ap is_gt e) ∙ h))
 
 -- the readings of a law and of its exchanged law are one law where both are canonical
@@ -119,36 +120,3 @@ canonical_reading p e r s w n = record {
 
 pub law_ops-reading : (p e : Equation) → Reading p e → law_ops e ≡ law_ops p
 law_ops-reading p e r = λ i. ops-shape_of e.left p.left (left_shape p e r) i + ops-shape_of e.right p.right (right_shape p e r) i
-
-map-map : (g h : ℕ → ℕ) → ((y : ℕ) → h (g y) ≡ y) → (w : List ℕ) → map h (map g w) ≡ w
-map-map g h e [] = refl
-map-map g h e (v ∷ w) = λ i. e v i ∷ map-map g h e w i
-
-map-through : (g h : ℕ → ℕ) (w : List ℕ) → map (λ y. h (g y)) w ≡ map h (map g w)
-map-through g h [] = refl
-map-through g h (v ∷ w) = ap (λ u. h (g v) ∷ u) (map-through g h w)
-
--- laws of one pair of shapes and one numbered word: a renaming takes one to the other
-renaming_between : (p q : Equation) → shape_of p.left ≡ shape_of q.left → shape_of p.right ≡ shape_of q.right → by_occurrence (law_word p) ≡ by_occurrence (law_word q) → (f : ℕ → ℕ) × IsInjective f × (law_renamed f p ≡ q)
-renaming_between p q l r w =
-    let m = renaming_by_occurrence (law_word p) in
-    let n = renaming_by_occurrence (law_word q) in
-    let f : ℕ → ℕ = λ y. n.back (m.to y) in
-    let inj : IsInjective f = λ x y e. m.injective x y (sym (n.inverse.to (m.to x)) ∙ ap n.to e ∙ n.inverse.to (m.to y)) in (
-      f,
-      inj,
-      same_law (law_renamed f p) q (shape_of-renamed f p.left ∙ l) (shape_of-renamed f p.right ∙ r)
-          (law_word-renamed f p ∙ map-through m.to n.back (law_word p) ∙ ap (map n.back) (m.is ∙ w ∙ sym n.is) ∙ map-map n.to n.back n.inverse.back (law_word q)),
-    )
-
-by_occurrence-law_renamed : (f : ℕ → ℕ) → IsInjective f → (p : Equation) → by_occurrence (law_word (law_renamed f p)) ≡ by_occurrence (law_word p)
-by_occurrence-law_renamed f inj p = ap by_occurrence (law_word-renamed f p) ∙ by_occurrence-map f inj (law_word p)
-
-pub Same-sym : (p q : Equation) → Same p q → Same q p
-Same-sym p q (f, inj, inl e) =
-    let b = renaming_between q p (ap (λ (u : Equation). shape_of u.left) (sym e) ∙ shape_of-renamed f p.left) (ap (λ (u : Equation). shape_of u.right) (sym e) ∙ shape_of-renamed f p.right) (ap (λ u. by_occurrence (law_word u)) (sym e) ∙ by_occurrence-law_renamed f inj p) in
-    (b.0, b.1, inl b.2)
-Same-sym p q (f, inj, inr e) =
-    let h : law_renamed f (exchanged p) ≡ q = ap exchanged e in
-    let b = renaming_between q (exchanged p) (ap (λ (u : Equation). shape_of u.left) (sym h) ∙ shape_of-renamed f p.right) (ap (λ (u : Equation). shape_of u.right) (sym h) ∙ shape_of-renamed f p.left) (ap (λ u. by_occurrence (law_word u)) (sym h) ∙ by_occurrence-law_renamed f inj (exchanged p)) in
-    (b.0, b.1, inr b.2)

@@ -2,14 +2,14 @@
 use Rattle.std.proofs.Common.{◌≡◌, ℕ, ◌+◌, ◌-◌, ◌*◌, ◌<◌, ◌≤◌, ◌⊎◌, inl, inr, ◌++◌, List, [], ◌∷◌, length, length-append, map, flat_map, refl, sym, ◌∙◌, ap, subst, suc, zero, arith}
 use Rattle.std.proofs.lemmas.List.{length-map}
 use Rattle.std.proofs.lemmas.Bool.{cases_order}
-use Rattle.std.proofs.lemmas.Bool.Decides.{nat_tests}
 use Rattle.std.proofs.lemmas.Cmp.{tied_itself}
 use Rattle.std.specs.List.{range_with_len}
 use Rattle.std.specs.Ordering.{nat_cmp, ordering_then, ordering_reverse}
-use Rattle.std.specs.declared.cmp.Ordering.TheVariants.{Less, Equal, Greater}
+use Rattle.std.specs.declared.cmp.Ordering.TheVariants.{Less}
 use Rattle.etp_theory.specs.Orders.{shape_cmp}
-use Rattle.etp_term.proofs.Shapes.{shape_total}
+use Rattle.etp_theory.proofs.Orders.{shape_order}
 use Rattle.etp_theory.specs.Trees.{Shape, leaf, fork, shape_ops}
+use Rattle.etp_theory.proofs.Comparing.{nat_cmp-less, nat_cmp-equal, nat_cmp-greater}
 use Rattle.etp_laws.specs.Enumeration.{pairs_from, joined, shapes}
 use Rattle.etp_laws.specs.Places.{pairs_below, shape_rank}
 use Rattle.etp_laws.proofs.Rising.{In, In-append_cases, In-map_source, In-flat_map_source, In-range_bounds}
@@ -129,15 +129,6 @@ before_pair a b = pair_before a b (shape_before a) (shape_before b)
 pub shape_rank-below : (s : Shape) → shape_rank s < length (shapes (shape_ops s))
 shape_rank-below s = let b = shape_before s in let l = Split-length (shapes (shape_ops s)) b.before s b.split in let e = b.long in omega arith
 
-nat_equal : (x y : ℕ) → x ≡ y → nat_cmp x y ≡ Equal
-nat_equal x y e = grind (arith, nat_tests)
-
-nat_less : (x y : ℕ) → x < y → nat_cmp x y ≡ Less
-nat_less x y l = grind (arith, nat_tests)
-
-nat_greater : (x y : ℕ) → y < x → nat_cmp x y ≡ Greater
-nat_greater x y l = grind (arith, nat_tests)
-
 rank_less : (a b : Shape) → shape_ops a ≡ shape_ops b → shape_rank a < shape_rank b → shape_cmp a b ≡ Less
 rank_less a b e l =
     let x = shape_before a in
@@ -153,15 +144,15 @@ rank_same a b e l =
     Split-same (shapes (shape_ops b)) x.before y.before a b (subst (λ n. Split (shapes n) x.before a) e x.split) y.split (x.long ∙ l ∙ sym y.long)
 
 -- shapes are ordered by their operations, then by how many stand before them
-pub shape_order : (a b : Shape) → ordering_then (nat_cmp (shape_ops a) (shape_ops b)) (nat_cmp (shape_rank a) (shape_rank b)) ≡ shape_cmp a b
-shape_order a b = by_ops (cases_order (shape_ops a) (shape_ops b))
+pub shape_cmp-ranks : (a b : Shape) → ordering_then (nat_cmp (shape_ops a) (shape_ops b)) (nat_cmp (shape_rank a) (shape_rank b)) ≡ shape_cmp a b
+shape_cmp-ranks a b = by_ops (cases_order (shape_ops a) (shape_ops b))
   where
     by_rank : shape_ops a ≡ shape_ops b → ((shape_rank a ≡ shape_rank b) ⊎ ((shape_rank a < shape_rank b) ⊎ (shape_rank b < shape_rank a))) → nat_cmp (shape_rank a) (shape_rank b) ≡ shape_cmp a b
-    by_rank e (inl l) = nat_equal (shape_rank a) (shape_rank b) l ∙ sym (ap (shape_cmp a) (sym (rank_same a b e l)) ∙ tied_itself shape_total a)
-    by_rank e (inr (inl l)) = nat_less (shape_rank a) (shape_rank b) l ∙ sym (rank_less a b e l)
-    by_rank e (inr (inr l)) = nat_greater (shape_rank a) (shape_rank b) l ∙ sym (shape_total.antisymm a b ∙ ap ordering_reverse (rank_less b a (sym e) l))
+    by_rank e (inl l) = nat_cmp-equal (shape_rank a) (shape_rank b) l ∙ sym (ap (shape_cmp a) (sym (rank_same a b e l)) ∙ tied_itself shape_order a)
+    by_rank e (inr (inl l)) = nat_cmp-less (shape_rank a) (shape_rank b) l ∙ sym (rank_less a b e l)
+    by_rank e (inr (inr l)) = nat_cmp-greater (shape_rank a) (shape_rank b) l ∙ sym (shape_order.antisymm a b ∙ ap ordering_reverse (rank_less b a (sym e) l))
 
     by_ops : ((shape_ops a ≡ shape_ops b) ⊎ ((shape_ops a < shape_ops b) ⊎ (shape_ops b < shape_ops a))) → ordering_then (nat_cmp (shape_ops a) (shape_ops b)) (nat_cmp (shape_rank a) (shape_rank b)) ≡ shape_cmp a b
-    by_ops (inl e) = ap (λ o. ordering_then o (nat_cmp (shape_rank a) (shape_rank b))) (nat_equal (shape_ops a) (shape_ops b) e) ∙ by_rank e (cases_order (shape_rank a) (shape_rank b))
-    by_ops (inr (inl l)) = ap (λ o. ordering_then o (nat_cmp (shape_rank a) (shape_rank b))) (nat_less (shape_ops a) (shape_ops b) l) ∙ sym (shape_cmp-ops a b l)
-    by_ops (inr (inr l)) = ap (λ o. ordering_then o (nat_cmp (shape_rank a) (shape_rank b))) (nat_greater (shape_ops a) (shape_ops b) l) ∙ sym (shape_total.antisymm a b ∙ ap ordering_reverse (shape_cmp-ops b a l))
+    by_ops (inl e) = ap (λ o. ordering_then o (nat_cmp (shape_rank a) (shape_rank b))) (nat_cmp-equal (shape_ops a) (shape_ops b) e) ∙ by_rank e (cases_order (shape_rank a) (shape_rank b))
+    by_ops (inr (inl l)) = ap (λ o. ordering_then o (nat_cmp (shape_rank a) (shape_rank b))) (nat_cmp-less (shape_ops a) (shape_ops b) l) ∙ sym (shape_cmp-ops a b l)
+    by_ops (inr (inr l)) = ap (λ o. ordering_then o (nat_cmp (shape_rank a) (shape_rank b))) (nat_cmp-greater (shape_ops a) (shape_ops b) l) ∙ sym (shape_order.antisymm a b ∙ ap ordering_reverse (shape_cmp-ops b a l))

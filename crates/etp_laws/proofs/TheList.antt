@@ -1,4 +1,4 @@
-use Rattle.std.proofs.Common.{◌≡◌, ◌≢◌, ℕ, ◌+◌, ◌<◌, ◌≤◌, ◌⊎◌, inl, inr, ◌++◌, List, [], ◌∷◌, map, length, take, drop, refl, sym, ◌∙◌, ap, subst, min, arith, true, false, not, ◌==◌, ◌||◌}
+use Rattle.std.proofs.Common.{◌≡◌, ◌≢◌, ℕ, ◌+◌, ◌<◌, ◌≤◌, ◌⊎◌, inl, inr, ◌++◌, List, [], ◌∷◌, map, length, take, drop, refl, sym, ◌∙◌, ap, subst, arith, true, false, not, ◌==◌, ◌||◌}
 use Rattle.std.proofs.lemmas.Bool.{true≢false, cases_Bool, and_parts, and_from, or_left, or_right, eqb-true, eq-eqb, not-true, false_from_ne_true, not_from_false}
 use Rattle.std.proofs.lemmas.Bool.Decides.{nat_tests}
 use Rattle.std.proofs.lemmas.Cmp.{tied_itself}
@@ -11,15 +11,17 @@ use Rattle.std.specs.declared.cmp.Ordering.{Ordering}
 use Rattle.std.specs.declared.cmp.Ordering.TheVariants.{Less, Equal, Greater}
 use Rattle.etp_theory.specs.Orders.{shape_cmp, law_cmp}
 use Rattle.etp_theory.specs.Trees.{Tree, var, op, Shape, fork, Equation, shape_of, word_of, law_word, shape_ops, ops, law_ops, exchanged, shape_leaves}
+use Rattle.etp_term.proofs.WordOrder.{length-word_of}
 use Rattle.etp_laws.specs.Enumeration.{words, pairs_from, joined, shapes, same_tree, is_first_reading, is_listed, law_at, laws_at, laws_of, laws_upto}
 use Rattle.etp_laws.specs.Listing.{Listed, IsTheList, reflexive_law}
 use Rattle.etp_laws.specs.Occurrences.{by_occurrence, Grows}
 use Rattle.etp_laws.specs.Canonical.{IsCanonical}
-use Rattle.etp_term.proofs.Shapes.{shape_total, shape_cmp-equal, shape_ops-shape_of, then_assoc}
-use Rattle.etp_laws.proofs.Occurrences.{Grows-by_occurrence_after, by_occurrence_after-Grows}
+use Rattle.etp_theory.proofs.Comparing.{nat_cmp-less, less_below, less_not_equal, then_assoc}
+use Rattle.etp_theory.proofs.Orders.{shape_order, shape_equal, shape_counts}
+use Rattle.etp_laws.proofs.Occurrences.{zero_min, Grows-by_occurrence_after, by_occurrence_after-Grows}
 use Rattle.etp_laws.proofs.Canonical.{cases_Ordering, canonical_from_listed, listed_from_canonical}
 use Rattle.etp_laws.proofs.Rising.{In, In-map, In-map_source, In-flat_map, In-flat_map_source, In-filter, In-filter_source, In-range, In-range_bounds, Rising-map, Rising-flat_map, Rising-range, Contains-from_in, All-from_in}
-use Rattle.etp_laws.proofs.WordLemmas.{In-words, words_are, Rising-words, length-word_of, shape_of-filled, word_of-filled, filled-word_of}
+use Rattle.etp_laws.proofs.WordLemmas.{In-words, words_are, Rising-words, shape_of-filled, word_of-filled, filled-word_of}
 use Rattle.etp_laws.proofs.Pairs.{pair_cmp, pairs_are, In-pairs, Rising-pairs, AreShapes-shapes}
 
 pub same_tree-true : (t u : Tree) → same_tree t u ≡ true → t ≡ u
@@ -47,9 +49,6 @@ reflexive_from (op a b) (op c d) e z n = absurd (omega arith)
 pub canonical_from_test : (p : Equation) → by_occurrence (law_word p) ≡ law_word p → is_listed p ≡ true → IsCanonical p
 canonical_from_test p n h = by_cases (cases_Ordering (shape_cmp (shape_of p.left) (shape_of p.right)))
   where
-    unlike : Less ≡ Equal → ⊥
-    unlike e = cc
-
     at : (o : Ordering) → shape_cmp (shape_of p.left) (shape_of p.right) ≡ o → is_first_reading o p ≡ true
     at o e = ap (λ x. is_first_reading x p) (sym e) ∙ h
 
@@ -64,8 +63,8 @@ canonical_from_test p n h = by_cases (cases_Ordering (shape_cmp (shape_of p.left
     by_cases (inl e) = record {
       occurrences = n;
       shapes = ap is_gt e;
-      words = λ s. absurd (unlike (sym e ∙ (λ i. shape_cmp (s i) (shape_of p.right)) ∙ tied_itself shape_total (shape_of p.right)));
-      sides = inl (λ s. unlike (sym e ∙ (λ i. shape_cmp (shape_of (s i)) (shape_of p.right)) ∙ tied_itself shape_total (shape_of p.right)));
+      words = λ s. absurd (less_not_equal (sym e ∙ (λ i. shape_cmp (s i) (shape_of p.right)) ∙ tied_itself shape_order (shape_of p.right)));
+      sides = inl (λ s. less_not_equal (sym e ∙ (λ i. shape_cmp (shape_of (s i)) (shape_of p.right)) ∙ tied_itself shape_order (shape_of p.right)));
     }
     by_cases (inr (inl e)) =
         let k = and_parts (not (is_gt (slice_cmp nat_cmp (law_word p) (by_occurrence (law_word (exchanged p)))))) (not (same_tree p.left p.right) || (law_ops p == 0)) (at Equal e) in
@@ -88,23 +87,17 @@ test_from_canonical p c = by_cases (cases_Ordering (shape_cmp (shape_of p.left) 
     by_cases (inl e) = ap (λ o. is_first_reading o p) e
     by_cases (inr (inl e)) =
         ap (λ o. is_first_reading o p) e
-        ∙ and_from _ _ (not_from_false _ (c.words (shape_cmp-equal (shape_of p.left) (shape_of p.right) e))) (by_sides c.sides)
+        ∙ and_from _ _ (not_from_false _ (c.words (shape_equal (shape_of p.left) (shape_of p.right) e))) (by_sides c.sides)
     by_cases (inr (inr e)) = absurd (true≢false (sym (ap is_gt e) ∙ c.shapes))
 
 nat_cmp_add : (a b : ℕ) → nat_cmp (a + 1) (b + 1) ≡ nat_cmp a b
 nat_cmp_add a b = grind (arith, nat_tests)
 
-nat_cmp-less : (a b : ℕ) → a < b → nat_cmp a b ≡ Less
-nat_cmp-less a b e = grind (arith, nat_tests)
-
-less_below : (a b : ℕ) → nat_cmp a b ≡ Less → a < b
-less_below a b e = grind (arith, nat_tests)
-
 abbrev shapes_of : Equation → Shape × Shape
 shapes_of p = (shape_of p.left, shape_of p.right)
 
 ops-shapes_of : (p : Equation) → shape_ops (shape_of p.left) + shape_ops (shape_of p.right) ≡ law_ops p
-ops-shapes_of p = λ i. shape_ops-shape_of p.left i + shape_ops-shape_of p.right i
+ops-shapes_of p = λ i. shape_counts p.left i + shape_counts p.right i
 
 -- laws are ordered by their pair of shapes, then by their word
 pub law_cmp-pair : (p q : Equation) → law_cmp p q ≡ ordering_then (pair_cmp (shapes_of p) (shapes_of q)) (slice_cmp nat_cmp (law_word p) (law_word q))
@@ -161,7 +154,7 @@ Rising-laws_at s =
     (λ x y i j e.
     law_cmp-pair (law_at s x) (law_at s y)
     ∙ (λ d. ordering_then (pair_cmp (shapes_of-law_at s x d) (shapes_of-law_at s y d)) (slice_cmp nat_cmp (law_word-law_at s x (words_are (shape_leaves s.0 + shape_leaves s.1) 0 x i).1 d) (law_word-law_at s y (words_are (shape_leaves s.0 + shape_leaves s.1) 0 y j).1 d)))
-    ∙ ap (λ o. ordering_then o (slice_cmp nat_cmp x y)) (tied_itself shape_total (joined s)) ∙ e))
+    ∙ ap (λ o. ordering_then o (slice_cmp nat_cmp x y)) (tied_itself shape_order (joined s)) ∙ e))
 
 pub Rising-laws_of : (n : ℕ) → IsStrictlySortedBy law_cmp (laws_of n)
 Rising-laws_of n =
@@ -183,9 +176,6 @@ laws_of_are n p h =
     let same : shape_ops (shape_of p.left) + shape_ops (shape_of p.right) ≡ shape_ops r.0.0 + shape_ops r.0.1 = ap (λ (t : Shape × Shape). shape_ops t.0 + shape_ops t.1) s in
     let by_occurrence_word : by_occurrence (law_word p) ≡ law_word p = ap by_occurrence w ∙ by_occurrence_after-Grows f.word [] (λ y. zero_min y) f.grows ∙ sym w in
     (listed_from_canonical p (canonical_from_test p by_occurrence_word f.passes), omega arith)
-  where
-    zero_min : (y : ℕ) → 0 ≡ min y 0
-    zero_min y = grind arith
 
 pub In-laws_of : (p : Equation) → Listed p → In p (laws_of (law_ops p))
 In-laws_of p listed =

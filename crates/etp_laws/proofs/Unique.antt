@@ -4,7 +4,7 @@ use Rattle.etp_theory.specs.Orders.{law_cmp}
 use Rattle.etp_theory.specs.Trees.{Equation, law_ops}
 use Rattle.etp_laws.specs.Enumeration.{laws_of, laws_upto}
 use Rattle.etp_laws.specs.Listing.{Listed, IsTheList}
-use Rattle.etp_term.proofs.Shapes.{law_total}
+use Rattle.etp_theory.proofs.Orders.{law_order}
 use Rattle.etp_laws.proofs.Rising.{In, Contains-from_in}
 use Rattle.etp_laws.proofs.EnumerationLemmas.{rising_unique, flat_map_range_more}
 use Rattle.etp_laws.proofs.TheList.{laws_upto_is}
@@ -20,7 +20,7 @@ In-from_contains xs x h = at xs h.0 h.1 h.2
 -- the list is determined by its four facts
 pub IsTheList-unique : (k : ℕ) (xs ys : List Equation) → IsTheList k xs → IsTheList k ys → xs ≡ ys
 IsTheList-unique k xs ys a b =
-    rising_unique law_cmp law_total xs ys a.rising b.rising
+    rising_unique law_cmp law_order xs ys a.rising b.rising
     (λ p h. let c = Contains-from_in p xs h in In-from_contains ys p (b.complete p (All-contains Listed xs p a.sound c) (All-contains (λ q. law_ops q ≤ k) xs p a.small c)))
     (λ p h. let c = Contains-from_in p ys h in In-from_contains xs p (a.complete p (All-contains Listed ys p b.sound c) (All-contains (λ q. law_ops q ≤ k) ys p b.small c)))
 

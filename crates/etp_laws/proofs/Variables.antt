@@ -2,14 +2,14 @@
 use Rattle.std.proofs.Common.{◌≡◌, ℕ, ◌+◌, ◌<◌, ◌≤◌, ◌⊎◌, inl, inr, ◌++◌, List, [], ◌∷◌, length, sym, ◌∙◌, subst, suc, max, arith}
 use Rattle.std.proofs.lemmas.Bool.{cases_order}
 use Rattle.etp_theory.specs.Trees.{Tree, var, op, Equation, shape_of, shape_leaves, word_of, law_word, law_ops, bound}
+use Rattle.etp_term.proofs.WordOrder.{length-word_of}
 use Rattle.etp_laws.specs.Occurrences.{Grows}
 use Rattle.etp_laws.specs.Listing.{Listed}
 use Rattle.etp_laws.specs.LawLists.{HasVariables}
-use Rattle.etp_term.proofs.Shapes.{shape_ops-shape_of}
+use Rattle.etp_theory.proofs.Orders.{shape_counts}
 use Rattle.etp_laws.proofs.Occurrences.{Grows-by_occurrence_after}
 use Rattle.etp_laws.proofs.Canonical.{canonical_from_listed}
 use Rattle.etp_laws.proofs.Rising.{In, Contains-from_in}
-use Rattle.etp_laws.proofs.WordLemmas.{length-word_of}
 use Rattle.etp_laws.proofs.Blocks.{shape_leaves-ops}
 use Rattle.etp_laws.proofs.Unique.{In-from_contains}
 
@@ -68,6 +68,6 @@ bound-few p listed =
     let n : length (law_word p) ≡ shape_leaves (shape_of p.left) + shape_leaves (shape_of p.right) = length-word_of (op p.left p.right) in
     let a = shape_leaves-ops (shape_of p.left) in
     let b = shape_leaves-ops (shape_of p.right) in
-    let c = shape_ops-shape_of p.left in
-    let d = shape_ops-shape_of p.right in
+    let c = shape_counts p.left in
+    let d = shape_counts p.right in
     omega arith

@@ -1,4 +1,4 @@
-use Rattle.std.proofs.Common.{◌≡◌, ℕ, ◌+◌, ◌<◌, inl, inr, ◌++◌, List, [], ◌∷◌, map, length, length-append, take, drop, refl, sym, ◌∙◌, ap, subst, suc, zero, arith, ◌==◌}
+use Rattle.std.proofs.Common.{◌≡◌, ℕ, ◌+◌, ◌<◌, inl, inr, ◌++◌, List, [], ◌∷◌, map, length, take, drop, refl, sym, ◌∙◌, ap, subst, suc, zero, arith, ◌==◌}
 use Rattle.std.proofs.lemmas.Bool.{cases_lt, cond-true, cond-false, eq-eqb, ne_eqb}
 use Rattle.std.proofs.lemmas.Bool.Decides.{nat_tests}
 use Rattle.std.proofs.lemmas.List.{take-append-drop, length-take, length-drop}
@@ -8,6 +8,7 @@ use Rattle.std.specs.List.Sorted.{IsStrictlySortedBy}
 use Rattle.std.specs.Cmp.Lexicographic.{slice_cmp}
 use Rattle.std.specs.Ordering.{nat_cmp, ordering_then}
 use Rattle.std.specs.declared.cmp.Ordering.TheVariants.{Equal}
+use Rattle.etp_term.proofs.WordOrder.{length-word_of}
 use Rattle.etp_theory.specs.Trees.{Tree, var, op, Shape, leaf, fork, shape_of, word_of, shape_leaves}
 use Rattle.etp_laws.specs.Occurrences.{Grows}
 use Rattle.etp_laws.specs.Enumeration.{filled, used_after, words}
@@ -62,10 +63,6 @@ Rising-words (suc n) used =
   where
     same : (v : ℕ) → nat_cmp v v ≡ Equal
     same v = grind (arith, nat_tests)
-
-pub length-word_of : (t : Tree) → length (word_of t) ≡ shape_leaves (shape_of t)
-length-word_of (var v) = refl
-length-word_of (op l r) = length-append (word_of l) (word_of r) ∙ (λ i. length-word_of l i + length-word_of r i)
 
 pub shape_of-filled : (s : Shape) (w : List ℕ) → shape_of (filled s w) ≡ s
 shape_of-filled leaf w = refl

@@ -10,7 +10,7 @@ use Rattle.etp_theory.specs.Orders.{shape_cmp}
 use Rattle.etp_laws.specs.Occurrences.{Grows}
 use Rattle.etp_laws.specs.Enumeration.{used_after, words, is_first_reading, is_listed, is_kept, law_at, laws_at}
 use Rattle.etp_laws.specs.Places.{rank, place_in_block}
-use Rattle.etp_term.proofs.Shapes.{shape_cmp-equal}
+use Rattle.etp_theory.proofs.Orders.{shape_equal}
 use Rattle.etp_laws.proofs.Canonical.{cases_Ordering}
 use Rattle.etp_laws.proofs.WordLemmas.{used_after-old, used_after-new}
 use Rattle.etp_laws.proofs.Counting.{length-words, length-words_below}
@@ -72,7 +72,7 @@ law_before s w g e h = by_cases (cases_Ordering (shape_cmp s.0 s.1)) (word_befor
       long = length-map b.before (law_at s) ∙ b.long ∙ ap (λ o. place_in_block o (shape_leaves s.0) w) (sym k);
     }
     by_cases (inr (inl k)) b =
-        let same = shape_cmp-equal s.0 s.1 k in
+        let same = shape_equal s.0 s.1 k in
         let kept : is_kept (shape_leaves s.0) w ≡ true = sym (kept_at s w same e) ∙ passes Equal k in
         let twice : n ≡ shape_leaves s.0 + shape_leaves s.0 = ap (λ t. shape_leaves s.0 + shape_leaves t) (sym same) in
         let front : b.before ≡ take (rank 0 w) (words (shape_leaves s.0 + shape_leaves s.0) 0) = Split-take (words n 0) b.before w (at b) ∙ (λ i. take (b.long i) (words (twice i) 0)) in

@@ -7,11 +7,8 @@ use Rattle.etp_laws.specs.Occurrences.{Grows}
 use Rattle.etp_laws.specs.Enumeration.{used_after, words}
 use Rattle.etp_laws.specs.Places.{words_count, rank, unrank}
 use Rattle.etp_laws.proofs.WordLemmas.{used_after-old, used_after-new}
-use Rattle.etp_laws.proofs.Counting.{words-rank}
+use Rattle.etp_laws.proofs.Counting.{times_le, words-rank}
 use Rattle.etp_laws.proofs.CountLemmas.{words_count-some, small_words}
-
-times_le : (a b c : ℕ) → a ≤ b → a * c ≤ b * c
-times_le a b c h = grind arith
 
 -- what is known of a letter of the word of a rank
 record Letter (c d used rest v : ℕ) : Type 0 where

@@ -14,5 +14,6 @@ pub record IsCanonical (p : Equation) : Type 0 where
   -- its left shape is not greater than its right shape
   pub shapes : is_gt (shape_cmp (shape_of p.left) (shape_of p.right)) ≡ false
   -- where the shapes are equal, its word is not greater than that of the exchanged law, numbered anew
-  pub words : shape_of p.left ≡ shape_of p.right → is_gt (slice_cmp nat_cmp (law_word p) (by_occurrence (law_word (exchanged p)))) ≡ false
+  pub words : shape_of p.left ≡ shape_of p.right
+      → is_gt (slice_cmp nat_cmp (law_word p) (by_occurrence (law_word (exchanged p)))) ≡ false
   pub sides : (p.left ≢ p.right) ⊎ (p ≡ reflexive_law)

@@ -24,7 +24,8 @@ first_of_list (t ∷ ts) = t
 pub read-written : (t : Tree) (ns : List ℕ) (ts : List Tree) → read (written t ++ ns) ts ≡ read ns (t ∷ ts)
 read-written (var v) ns ts = refl
 read-written (op l r) ns ts =
-    ap (λ u. read u ts) (append_assoc (written l) (written r ++ 0 ∷ []) ns ∙ ap (λ u. written l ++ u) (append_assoc (written r) (0 ∷ []) ns))
+    ap (λ u. read u ts) (append_assoc (written l) (written r ++ 0 ∷ []) ns
+    ∙ ap (λ u. written l ++ u) (append_assoc (written r) (0 ∷ []) ns))
     ∙ read-written l (written r ++ (0 ∷ ns)) ts
     ∙ read-written r (0 ∷ ns) (l ∷ ts)
 
@@ -40,7 +41,8 @@ read_sides ns = sides_of (first_of_list (read ns []))
 
 pub read_sides-written : (e : Equation) → read_sides (written_sides e) ≡ e
 read_sides-written e =
-    ap (λ u. read_sides u) (sym_append (written_sides e)) ∙ ap (λ u. sides_of (first_of_list u)) (read-written (op e.left e.right) [] [])
+    ap (λ u. read_sides u) (sym_append (written_sides e))
+    ∙ ap (λ u. sides_of (first_of_list u)) (read-written (op e.left e.right) [] [])
   where
     sym_append : (xs : List ℕ) → xs ≡ xs ++ []
     sym_append [] = refl

@@ -50,7 +50,9 @@ same_tree (op a b) (op c d) = same_tree a c && same_tree b d
 -- of a law that is numbered by first occurrence: whether it is listed
 abbrev pub is_first_reading : Ordering → Equation → Bool
 is_first_reading Less p = true
-is_first_reading Equal p = not (is_gt (slice_cmp nat_cmp (law_word p) (by_occurrence (law_word (exchanged p))))) && (not (same_tree p.left p.right) || (law_ops p == 0))
+is_first_reading Equal p =
+    not (is_gt (slice_cmp nat_cmp (law_word p) (by_occurrence (law_word (exchanged p)))))
+    && (not (same_tree p.left p.right) || (law_ops p == 0))
 is_first_reading Greater p = false
 
 abbrev pub is_listed : Equation → Bool
@@ -62,7 +64,8 @@ law_at s w = record { left = filled s.0 (take (shape_leaves s.0) w); right = fil
 -- of a word of a law whose sides have m variables each: whether the law is listed
 abbrev pub is_kept : ℕ → List ℕ → Bool
 is_kept m w =
-    not (is_gt (slice_cmp nat_cmp w (by_occurrence (drop m w ++ take m w)))) && (not (bytes_eq (take m w) (drop m w)) || (m == 1))
+    not (is_gt (slice_cmp nat_cmp w (by_occurrence (drop m w ++ take m w))))
+    && (not (bytes_eq (take m w) (drop m w)) || (m == 1))
 
 abbrev pub laws_at : Shape × Shape → List Equation
 laws_at s = filter is_listed (map (law_at s) (words (shape_leaves s.0 + shape_leaves s.1) 0))

@@ -14,7 +14,9 @@ pub record LawList : Type 0 where
 
 abbrev pub coded_law_list : Coded LawList
 coded_law_list =
-    code_by (ℕ × (List Equation × List ℕ)) (coded× coded_ℕ (coded× (coded_list coded_equation) (coded_list coded_ℕ))) (λ l. (l.order, (l.equations, l.duals))) (λ p. record { order = p.0; equations = p.1.0; duals = p.1.1 }) (λ _. refl)
+    code_by (ℕ × (List Equation × List ℕ)) (coded× coded_ℕ (coded× (coded_list coded_equation) (coded_list coded_ℕ)))
+    (λ l. (l.order, (l.equations, l.duals)))
+    (λ p. record { order = p.0; equations = p.1.0; duals = p.1.1 }) (λ _. refl)
 
 -- the law has m variables, which are 0 to m - 1
 abbrev pub HasVariables : Equation → ℕ → Type 0

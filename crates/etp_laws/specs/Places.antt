@@ -1,12 +1,14 @@
 -- Where a law stands in the list, by counting: what the program does in place of a look through the list.
 -- No public clause cites it but for `words_count`.
-use Rattle.std.specs.Prelude.{ℕ, zero, suc, ◌+◌, ◌-◌, ◌*◌, ◌/◌, min, Bool, cond, List, [], ◌∷◌, length, map, filter, take, slice_index}
+use Rattle.std.specs.Prelude.{ℕ, zero, suc, ◌+◌, ◌-◌, ◌*◌, ◌/◌, min, cond, List, [], ◌∷◌, length, map, filter, take, slice_index}
 use Rattle.std.specs.Cmp.Lexicographic.{slice_cmp}
 use Rattle.std.specs.Ordering.{nat_cmp, ordering_then, is_gt}
 use Rattle.std.specs.declared.cmp.Ordering.{Ordering}
 use Rattle.std.specs.declared.cmp.Ordering.TheVariants.{Less, Equal, Greater}
 use Rattle.etp_theory.specs.Trees.{Tree, dual, Shape, leaf, fork, Equation, shape_of, shape_ops, law_word, law_dual, exchanged}
 use Rattle.etp_theory.specs.Orders.{shape_cmp}
+use Rattle.etp_laws.specs.declared.parts.Orientation.{Orientation}
+use Rattle.etp_laws.specs.declared.parts.Orientation.TheVariants.{AsWritten, Mirrored}
 use Rattle.etp_laws.specs.Occurrences.{by_occurrence}
 use Rattle.etp_laws.specs.Enumeration.{used_after, words, shapes, is_kept}
 
@@ -34,7 +36,9 @@ pairs_below n (suc i) = pairs_below n i + length (shapes i) * length (shapes (n 
 -- how many shapes of as many operations stand before the shape
 abbrev pub shape_rank : Shape → ℕ
 shape_rank leaf = 0
-shape_rank (fork a b) = pairs_below (shape_ops a + shape_ops b) (shape_ops a) + (shape_rank a * length (shapes (shape_ops b)) + shape_rank b)
+shape_rank (fork a b) =
+    pairs_below (shape_ops a + shape_ops b) (shape_ops a)
+    + (shape_rank a * length (shapes (shape_ops b)) + shape_rank b)
 
 -- how many laws of as many operations stand before those of two shapes, of i and j operations, with
 -- x and y shapes of as many operations before them
@@ -71,19 +75,21 @@ lesser u w = cond (is_gt (slice_cmp nat_cmp u w)) w u
 abbrev pub place_by : Ordering → Equation → ℕ
 place_by Less p = place_at (shape_of p.left) (shape_of p.right) (by_occurrence (law_word p))
 place_by Equal p =
-    place_at (shape_of p.left) (shape_of p.right) (lesser (by_occurrence (law_word p)) (by_occurrence (law_word (exchanged p))))
+    place_at (shape_of p.left) (shape_of p.right)
+    (lesser (by_occurrence (law_word p)) (by_occurrence (law_word (exchanged p))))
 place_by Greater p = place_at (shape_of p.right) (shape_of p.left) (by_occurrence (law_word (exchanged p)))
 
 abbrev pub number_of : Equation → ℕ
 number_of p = place_by (shape_cmp (shape_of p.left) (shape_of p.right)) p + 1
 
--- a term, or its dual
-abbrev pub seen : Bool → Tree → Tree
-seen mirrored t = cond mirrored (dual t) t
+-- a term in this orientation: itself, or its dual
+abbrev pub oriented : Orientation → Tree → Tree
+oriented AsWritten t = t
+oriented Mirrored t = dual t
 
 -- the law of two terms, or its dual
-abbrev pub seen_law : Bool → Tree → Tree → Equation
-seen_law mirrored l r = record { left = seen mirrored l; right = seen mirrored r }
+abbrev pub oriented_law : Orientation → Tree → Tree → Equation
+oriented_law orientation l r = record { left = oriented orientation l; right = oriented orientation r }
 
 -- the numbers of the duals, by counting
 unfoldable pub dual_numbers : List Equation → List ℕ

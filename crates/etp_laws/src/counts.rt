@@ -26,7 +26,9 @@ const LAWS_BELOW: [u32; 6] = [0, 2, 7, 46, 410, 4694];
 /// How many words of `leaves` variables, numbered by first occurrence, go on after `used`
 /// variables; None exactly where one of the two is above 8.
 pub fn words(leaves: u32, used: u32) -> Option<u64>
-    ensures { MatchOption result ((8 < leaves) ⊎ (8 < used)) (λ n. (leaves ≤ 8) × (used ≤ 8) × (n ≡ words_count leaves used) × CountsWords leaves used n) }
+    ensures { MatchOption result ((8 < leaves) ⊎ (8 < used))
+        (λ n. (leaves ≤ 8) × (used ≤ 8) × (n ≡ words_count leaves used)
+        × CountsWords leaves used n) }
 {
     if leaves > 8 || used > 8 {
         return None;

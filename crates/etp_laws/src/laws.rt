@@ -10,6 +10,7 @@ ghost use Rattle.etp_laws.specs.NumberAnswers.{IsNumberAnswer};
 ghost use Rattle.etp_laws.specs.Places;
 
 use crate::listing::listed_upto;
+use crate::parts::Orientation;
 use crate::places::number_of;
 use etp_term::{Law, Term};
 use sqlite_items::Items;
@@ -49,7 +50,9 @@ impl Model for Laws {
 
     ghost view = { λ l. record { order = l.order; equations = map equation_of l.laws; duals = l.duals } };
 
-    ghost invariant = { λ l. (4 ≤ l.order) × (l.order ≤ 5) × ∥ map equation_of l.laws ≡ laws_upto l.order ∥₁ × ∥ l.duals ≡ dual_numbers (map equation_of l.laws) ∥₁ };
+    ghost invariant = { λ l. (4 ≤ l.order) × (l.order ≤ 5)
+        × ∥ map equation_of l.laws ≡ laws_upto l.order ∥₁
+        × ∥ l.duals ≡ dual_numbers (map equation_of l.laws) ∥₁ };
 }
 
 impl Laws {
@@ -106,7 +109,9 @@ impl Laws {
     /// How many variables law n has; they are 0 to that number less one. None exactly where n is 0
     /// or above the count.
     pub fn variables(&self, n: u32) -> Option<u8>
-        ensures exact { MatchOption result (law_numbered self.now.equations n ≡ None) (λ m. (e : Equation) × (law_numbered self.now.equations n ≡ Some e) × HasVariables e m) }
+        ensures exact { MatchOption result (law_numbered self.now.equations n ≡ None)
+            (λ m. (e : Equation) × (law_numbered self.now.equations n ≡ Some e)
+            × HasVariables e m) }
         ensures few { IfSome result (λ m. m ≤ self.now.order + 2) }
     {
         let _order = self.order();
@@ -127,12 +132,13 @@ impl Laws {
         if is_trivial(law) {
             return Numbered::Trivial;
         }
-        Numbered::Is(number_of(&law.left, &law.right, false))
+        Numbered::Is(number_of(&law.left, &law.right, Orientation::AsWritten))
     }
 
     /// The number of the dual of law n; None exactly where n is 0 or above the count.
     pub fn dual(&self, n: u32) -> Option<u32>
-        ensures exact { MatchOption result (law_numbered self.now.equations n ≡ None) (λ m. IsDualOf self.now.equations n m) }
+        ensures exact { MatchOption result (law_numbered self.now.equations n ≡ None)
+            (λ m. IsDualOf self.now.equations n m) }
         ensures list { IfSome result (λ m. m ≡ dual_number self.now.duals n) }
     {
         let duals = &self.duals;
@@ -162,7 +168,7 @@ fn dual_numbers(alloc: Global, laws: &[Law]) -> Result<Items<u32>, AllocError>
 {
     let mut duals = Items::from_vec(Vec::with_capacity(alloc, laws.len())?);
     for law in laws {
-        duals.push(number_of(&law.left, &law.right, true))?;
+        duals.push(number_of(&law.left, &law.right, Orientation::Mirrored))?;
     }
     Ok(duals)
 }

@@ -29,8 +29,10 @@ fn append_all(
     sides: &Sides,
     words: &[Items<u8>],
 ) -> Result<(), AllocError>
-    requires { All (λ w. length w ≡ shape_leaves (shape_from sides.now.left) + shape_leaves (shape_from sides.now.right)) words.now }
-    ensures { OnOk result (map equation_of laws.new ≡ map equation_of laws.old ++ map (law_at (sides_from sides.now)) words.now) }
+    requires { All (λ w. length w ≡ shape_leaves (shape_from sides.now.left)
+        + shape_leaves (shape_from sides.now.right)) words.now }
+    ensures { OnOk result (map equation_of laws.new
+        ≡ map equation_of laws.old ++ map (law_at (sides_from sides.now)) words.now) }
 {
     for word in words {
         laws.push(law_at(alloc, sides, word.as_slice())?)?;
@@ -45,9 +47,12 @@ fn append_if_kept(
     sides: &Sides,
     word: &[u8],
 ) -> Result<(), AllocError>
-    requires fit { length word.now ≡ shape_leaves (shape_from sides.now.left) + shape_leaves (shape_from sides.now.right) }
+    requires fit { length word.now ≡ shape_leaves (shape_from sides.now.left)
+        + shape_leaves (shape_from sides.now.right) }
     requires short { length word.now ≤ 8 }
-    ensures { OnOk result (map equation_of laws.new ≡ map equation_of laws.old ++ map (law_at (sides_from sides.now)) (filter (is_kept (shape_leaves (shape_from sides.now.left))) (word.now ∷ []))) }
+    ensures { OnOk result (map equation_of laws.new
+        ≡ map equation_of laws.old ++ map (law_at (sides_from sides.now))
+        (filter (is_kept (shape_leaves (shape_from sides.now.left))) (word.now ∷ []))) }
 {
     if is_kept(word, sides.left.leaves()) {
         laws.push(law_at(alloc, sides, word)?)?;
@@ -63,9 +68,12 @@ fn append_kept(
     sides: &Sides,
     words: &[Items<u8>],
 ) -> Result<(), AllocError>
-    requires fit { All (λ w. length w ≡ shape_leaves (shape_from sides.now.left) + shape_leaves (shape_from sides.now.right)) words.now }
+    requires fit { All (λ w. length w ≡ shape_leaves (shape_from sides.now.left)
+        + shape_leaves (shape_from sides.now.right)) words.now }
     requires short { shape_leaves (shape_from sides.now.left) + shape_leaves (shape_from sides.now.right) ≤ 8 }
-    ensures { OnOk result (map equation_of laws.new ≡ map equation_of laws.old ++ map (law_at (sides_from sides.now)) (filter (is_kept (shape_leaves (shape_from sides.now.left))) words.now)) }
+    ensures { OnOk result (map equation_of laws.new
+        ≡ map equation_of laws.old ++ map (law_at (sides_from sides.now))
+        (filter (is_kept (shape_leaves (shape_from sides.now.left))) words.now)) }
 {
     for word in words {
         append_if_kept(alloc, laws, sides, word.as_slice())?;
@@ -81,7 +89,8 @@ fn append_laws_at(
     in_order: &[Items<u8>],
 ) -> Result<(), AllocError>
     requires short { shape_leaves (shape_from sides.now.left) + shape_leaves (shape_from sides.now.right) ≤ 8 }
-    requires words { in_order.now ≡ words (shape_leaves (shape_from sides.now.left) + shape_leaves (shape_from sides.now.right)) 0 }
+    requires words { in_order.now ≡ words (shape_leaves (shape_from sides.now.left)
+        + shape_leaves (shape_from sides.now.right)) 0 }
     ensures { OnOk result (map equation_of laws.new ≡ map equation_of laws.old ++ laws_at (sides_from sides.now)) }
 {
     match sides.left.shape_cmp(&sides.right) {

@@ -3,7 +3,7 @@ ghost use Rattle.std.specs.Ordering.{nat_cmp, ordering_then};
 ghost use Rattle.etp_theory.specs.Trees.{ops, shape_ops, word_of};
 ghost use Rattle.etp_theory.specs.Trees as Theory;
 ghost use Rattle.etp_term.specs.Terms.{tree_of};
-ghost use Rattle.etp_laws.specs.Places.{shape_rank, seen};
+ghost use Rattle.etp_laws.specs.Places.{shape_rank, oriented};
 ghost use Rattle.etp_laws.specs.Places;
 ghost use Rattle.etp_laws.specs.Enumeration.{shapes};
 
@@ -11,6 +11,15 @@ use crate::counts::{pairs_below, shapes_of};
 use crate::letters::Letters;
 use etp_term::Term;
 use std::cmp::Ordering;
+
+/// Which of a term and its dual is meant.
+#[derive(Clone, Copy)]
+pub enum Orientation {
+    /// The term itself.
+    AsWritten,
+    /// Its dual, in which the two sides of each operation are exchanged.
+    Mirrored,
+}
 
 /// A shape: its operations, and how many shapes of as many operations stand before it.
 #[derive(Clone, Copy)]
@@ -33,7 +42,9 @@ impl ShapePlace {
         requires left { self.now.place ≤ 42 }
         requires right { right.now.place ≤ 42 }
         ensures ops { result.ops ≡ self.now.ops + right.now.ops + 1 }
-        ensures place { result.place ≡ Places.pairs_below (self.now.ops + right.now.ops) self.now.ops + (self.now.place * length (shapes right.now.ops) + right.now.place) }
+        ensures place { result.place
+            ≡ Places.pairs_below (self.now.ops + right.now.ops) self.now.ops
+            + (self.now.place * length (shapes right.now.ops) + right.now.place) }
     {
         let ops = self.ops + right.ops;
         ShapePlace {
@@ -43,55 +54,55 @@ impl ShapePlace {
     }
 }
 
-/// The shape of a term, or of its dual where it is to be mirrored.
-pub fn shape_of(term: &Term, mirrored: bool) -> ShapePlace
+/// The shape of a term in this orientation.
+pub fn shape_of(term: &Term, orientation: Orientation) -> ShapePlace
     requires { ops (tree_of term.now) ≤ 5 }
-    ensures ops { result.ops ≡ shape_ops (Theory.shape_of (seen mirrored (tree_of term.now))) }
-    ensures place { result.place ≡ shape_rank (Theory.shape_of (seen mirrored (tree_of term.now))) }
+    ensures ops { result.ops ≡ shape_ops (Theory.shape_of (oriented orientation (tree_of term.now))) }
+    ensures place { result.place ≡ shape_rank (Theory.shape_of (oriented orientation (tree_of term.now))) }
     ensures size { result.ops ≡ ops (tree_of term.now) }
     ensures small { result.place ≤ 42 }
 {
     match term {
         Term::Var(_) => ShapePlace { ops: 0, place: 0 },
         Term::Op(l, r) => {
-            let left = shape_of(l.get(), mirrored);
-            let right = shape_of(r.get(), mirrored);
-            if mirrored {
-                right.joined(&left)
-            } else {
-                left.joined(&right)
+            let left = shape_of(l.get(), orientation);
+            let right = shape_of(r.get(), orientation);
+            match orientation {
+                Orientation::AsWritten => left.joined(&right),
+                Orientation::Mirrored => right.joined(&left),
             }
         }
     }
 }
 
-/// Appends the variables of a term, or of its dual where it is to be mirrored.
-fn append_word(term: &Term, mirrored: bool, word: &mut Letters)
+/// Appends the variables of a term in this orientation.
+fn append_word(term: &Term, orientation: Orientation, word: &mut Letters)
     requires { length word.old + ops (tree_of term.now) ≤ 7 }
-    ensures word { word.new ≡ word.old ++ word_of (seen mirrored (tree_of term.now)) }
+    ensures word { word.new ≡ word.old ++ word_of (oriented orientation (tree_of term.now)) }
     ensures len { length word.new ≡ length word.old + ops (tree_of term.now) + 1 }
 {
     match term {
         Term::Var(v) => word.push(*v),
-        Term::Op(l, r) => {
-            if mirrored {
-                append_word(r.get(), mirrored, word);
-                append_word(l.get(), mirrored, word);
-            } else {
-                append_word(l.get(), mirrored, word);
-                append_word(r.get(), mirrored, word);
+        Term::Op(l, r) => match orientation {
+            Orientation::AsWritten => {
+                append_word(l.get(), orientation, word);
+                append_word(r.get(), orientation, word);
             }
-        }
+            Orientation::Mirrored => {
+                append_word(r.get(), orientation, word);
+                append_word(l.get(), orientation, word);
+            }
+        },
     }
 }
 
-/// The variables of a term, or of its dual where it is to be mirrored.
-pub fn letters_of(term: &Term, mirrored: bool) -> Letters
+/// The variables of a term in this orientation.
+pub fn letters_of(term: &Term, orientation: Orientation) -> Letters
     requires { ops (tree_of term.now) ≤ 7 }
-    ensures word { result ≡ word_of (seen mirrored (tree_of term.now)) }
+    ensures word { result ≡ word_of (oriented orientation (tree_of term.now)) }
     ensures len { length result ≡ ops (tree_of term.now) + 1 }
 {
     let mut word = Letters::new();
-    append_word(term, mirrored, &mut word);
+    append_word(term, orientation, &mut word);
     word
 }

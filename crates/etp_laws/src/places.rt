@@ -6,12 +6,12 @@ ghost use Rattle.etp_theory.specs.Orders.{shape_cmp};
 ghost use Rattle.etp_term.specs.Terms.{tree_of};
 ghost use Rattle.etp_laws.specs.Occurrences.{Grows};
 ghost use Rattle.etp_laws.specs.Enumeration.{words, is_kept};
-ghost use Rattle.etp_laws.specs.Places.{words_count, place_from, place_by, number_of, seen, seen_law};
+ghost use Rattle.etp_laws.specs.Places.{words_count, place_from, place_by, number_of, oriented, oriented_law};
 ghost use Rattle.etp_laws.specs.Places;
 
 use crate::counts::{laws_below, pairs_below, shapes_of, words_of};
 use crate::letters::{Letters, by_occurrence};
-use crate::parts::{ShapePlace, letters_of, shape_of};
+use crate::parts::{Orientation, ShapePlace, letters_of, shape_of};
 use crate::word_lists::{is_kept, used_after};
 use etp_term::Term;
 use std::cmp::Ordering;
@@ -61,7 +61,8 @@ fn kept_before(word: &[u8], middle: u32) -> u32
     requires len { length word.now ≡ middle + middle }
     requires within { Places.rank 0 word.now < words_count (middle + middle) 0 }
     requires small { Places.rank 0 word.now < 2 ^ 31 }
-    ensures value { result ≡ length (filter (is_kept middle) (take (Places.rank 0 word.now) (words (middle + middle) 0))) }
+    ensures value { result ≡ length (filter (is_kept middle)
+        (take (Places.rank 0 word.now) (words (middle + middle) 0))) }
     ensures fewer { result ≤ Places.rank 0 word.now }
 {
     let mut kept = 0;
@@ -132,17 +133,20 @@ fn lesser(first: Letters, second: Letters) -> Letters
     }
 }
 
-/// How many laws stand before the listed one that is the same as the law of these sides, or as its
-/// dual where it is to be mirrored.
-fn place_of(left: &Term, right: &Term, mirrored: bool) -> u32
+/// How many laws stand before the listed one that is the same as the law of these sides in this
+/// orientation.
+fn place_of(left: &Term, right: &Term, orientation: Orientation) -> u32
     requires { ops (tree_of left.now) + ops (tree_of right.now) ≤ 5 }
-    ensures value { result ≡ place_by (shape_cmp (shape_of (seen mirrored (tree_of left.now))) (shape_of (seen mirrored (tree_of right.now)))) (seen_law mirrored (tree_of left.now) (tree_of right.now)) }
+    ensures value { result ≡ place_by (shape_cmp
+        (shape_of (oriented orientation (tree_of left.now)))
+        (shape_of (oriented orientation (tree_of right.now))))
+        (oriented_law orientation (tree_of left.now) (tree_of right.now)) }
     ensures small { result ≤ 20000000 }
 {
-    let left_shape = shape_of(left, mirrored);
-    let right_shape = shape_of(right, mirrored);
-    let left_word = letters_of(left, mirrored);
-    let right_word = letters_of(right, mirrored);
+    let left_shape = shape_of(left, orientation);
+    let right_shape = shape_of(right, orientation);
+    let left_word = letters_of(left, orientation);
+    let right_word = letters_of(right, orientation);
     match left_shape.order(&right_shape) {
         Ordering::Less => {
             let plain = by_occurrence(left_word.as_slice(), right_word.as_slice());
@@ -164,11 +168,10 @@ fn place_of(left: &Term, right: &Term, mirrored: bool) -> u32
     }
 }
 
-/// The number of the law of these sides, which differ or are one variable, or of its dual where it
-/// is to be mirrored.
-pub fn number_of(left: &Term, right: &Term, mirrored: bool) -> u32
+/// The number of the law of these sides in this orientation; they differ or are one variable.
+pub fn number_of(left: &Term, right: &Term, orientation: Orientation) -> u32
     requires { ops (tree_of left.now) + ops (tree_of right.now) ≤ 5 }
-    ensures { result ≡ number_of (seen_law mirrored (tree_of left.now) (tree_of right.now)) }
+    ensures { result ≡ number_of (oriented_law orientation (tree_of left.now) (tree_of right.now)) }
 {
-    place_of(left, right, mirrored) + 1
+    place_of(left, right, orientation) + 1
 }

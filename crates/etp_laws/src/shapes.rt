@@ -101,7 +101,9 @@ fn append_pairs_with(
     left: &Shape,
     rights: &[Shape],
 ) -> Result<(), AllocError>
-    ensures { OnOk result (map sides_from pairs.new ≡ map sides_from pairs.old ++ map (λ b. (shape_from left.now, b)) (map shape_from rights.now)) }
+    ensures { OnOk result (map sides_from pairs.new
+        ≡ map sides_from pairs.old ++ map (λ b. (shape_from left.now, b))
+        (map shape_from rights.now)) }
 {
     for right in rights {
         pairs.push(Sides {
@@ -119,7 +121,9 @@ fn append_pairs(
     lefts: &[Shape],
     rights: &[Shape],
 ) -> Result<(), AllocError>
-    ensures { OnOk result (map sides_from pairs.new ≡ map sides_from pairs.old ++ flat_map (λ a. map (λ b. (a, b)) (map shape_from rights.now)) (map shape_from lefts.now)) }
+    ensures { OnOk result (map sides_from pairs.new
+        ≡ map sides_from pairs.old ++ flat_map (λ a. map (λ b. (a, b)) (map shape_from rights.now))
+        (map shape_from lefts.now)) }
 {
     for left in lefts {
         append_pairs_with(alloc, pairs, left, rights)?;

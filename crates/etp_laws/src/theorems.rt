@@ -11,7 +11,8 @@ pub fn the_list_is_one()
 
 /// The list of one operation more begins with the list.
 pub fn longer_list_begins_with_the_list()
-    ensures { (k : ℕ) (xs ys : List Equation) → IsTheList k xs → IsTheList (k + 1) ys → (more : List Equation) × (ys ≡ xs ++ more) }
+    ensures { (k : ℕ) (xs ys : List Equation) → IsTheList k xs → IsTheList (k + 1) ys
+        → (more : List Equation) × (ys ≡ xs ++ more) }
 {}
 
 /// The lists of at most four and five operations have 4694 and 62576 laws.
@@ -22,7 +23,8 @@ pub fn lists_are_this_long()
 
 /// A law has at most one number.
 pub fn numbers_are_one()
-    ensures { (k : ℕ) (laws : List Equation) (p : Equation) (n m : ℕ) → IsTheList k laws → IsNumberOf laws p n → IsNumberOf laws p m → n ≡ m }
+    ensures { (k : ℕ) (laws : List Equation) (p : Equation) (n m : ℕ) → IsTheList k laws
+        → IsNumberOf laws p n → IsNumberOf laws p m → n ≡ m }
 {}
 
 /// A law whose sides are equal and aren't a lone variable is the same as no listed law.

@@ -4,6 +4,7 @@ use Rattle.std.specs.Prelude.{ℤ, pos, negsuc, ◌+ℤ◌, IsTrue}
 use Rattle.std.specs.Int.{w128}
 use Rattle.std.proofs.lemmas.Bool.{ltb-true}
 use Rattle.std.proofs.lemmas.Int.{fits_signed_from_abs}
+use Rattle.std.proofs.lemmas.Option.{same_Some}
 use Rattle.etp_theory.specs.Trees.{Tree, Equation, ops, bound}
 use Rattle.etp_theory.specs.Magmas.{meaning, Holds}
 use Rattle.etp_forms.specs.Forms.{only}
@@ -102,10 +103,7 @@ module _ (l : LinearMagma) (ok : IsLinearMagma l) where
 
     pub small_there : (p : Option ℕ) → IsFirstDifference left right p → (v : ℕ) → p ≡ Some v → v < 8
     small_there None d v q = absurd (cc)
-    small_there (Some u) d v q = omega (arith, some_same q, d.0)
-      where
-        some_same : {x y : ℕ} → Some x ≡ Some y → x ≡ y
-        some_same {x = x} {y = y} r = cc
+    small_there (Some u) d v q = omega (arith, same_Some u v q, d.0)
 
     apart : (p : Option ℕ) → IsFirstDifference left right p → taken l.ring left p ≢ taken l.ring right p
     apart None d s = d s

@@ -1,17 +1,11 @@
--- Listed laws are small, and what is judged is right.
-use Rattle.std.proofs.Common.{◌≡◌, ℕ, ◌≤◌, ◌⊎◌, inl, inr, subst, arith, List, length, take, Some}
-use Rattle.std.specs.Prelude.{All}
-use Rattle.std.proofs.lemmas.List.{take_all}
+-- What is judged is right.
+use Rattle.std.proofs.Common.{ℕ, List}
 use Rattle.std.proofs.lemmas.List.Elements.{All-contains}
-use Rattle.etp_theory.specs.Trees.{Equation, ops, bound}
-use Rattle.etp_theory.specs.LawNumbers.{law_numbered}
+use Rattle.etp_theory.specs.Trees.{Equation}
 use Rattle.etp_theory.specs.Reach.{refutes}
 use Rattle.etp_theory.specs.RightFacts.{IsRightFact}
 use Rattle.etp_theory.specs.Sound.{sound}
 use Rattle.etp_forms.proofs.Values as Forms
-use Rattle.etp_laws.specs.Listing.{IsTheList}
-use Rattle.etp_laws.proofs.Entries.{Listed-entry, small_entry}
-use Rattle.etp_laws.proofs.Variables.{bound-few}
 use Rattle.etp_linear.specs.Magmas.{LinearMagma, inside, times, IsLinearMagma}
 use Rattle.etp_linear.specs.Values.{affine}
 use Rattle.etp_linear.specs.Judgements.{LawHolds, LawFails, LawFailsBy, IsJudged}
@@ -19,23 +13,6 @@ use Rattle.etp_linear.specs.declared.parts.LinearFailure.{LinearFailure}
 use Rattle.etp_linear.proofs.Scalars.{linear}
 use Rattle.etp_linear.proofs.Walks.{in_carrier}
 use Rattle.etp_linear.proofs.Failing.{fails}
-
-pub record IsSmallLaw (e : Equation) : Type 0 where
-  pub left_ops : ops e.left ≤ 5
-  pub right_ops : ops e.right ≤ 5
-  pub left_variables : bound e.left ≤ 8
-  pub right_variables : bound e.right ≤ 8
-
-pub listed_small : (k : ℕ) (xs : List Equation) (n : ℕ) (e : Equation) → IsTheList k xs → (k ≡ 4) ⊎ (k ≡ 5) → law_numbered xs n ≡ Some e → IsSmallLaw e
-listed_small k xs n e list known h =
-    let at_most : k ≤ 5 = by_order known in
-    let small = small_entry k xs n e list h in
-    let few = bound-few e (Listed-entry k xs n e list h) in
-    record { left_ops = omega arith; right_ops = omega arith; left_variables = omega arith; right_variables = omega arith }
-  where
-    by_order : (k ≡ 4) ⊎ (k ≡ 5) → k ≤ 5
-    by_order (inl e) = omega arith
-    by_order (inr e) = omega arith
 
 -- a law that fails at a point fails
 pub fails_by : (laws : List Equation) (l : LinearMagma) (n : ℕ) (f : LinearFailure) → LawFailsBy laws l n f → LawFails laws l n
@@ -53,7 +30,3 @@ right_fact laws l ok holds fails judged e f i j =
       failing_listed = g.listed;
       apart = λ d. g.fails (sound (inside l.ring) (times l) (Forms.closed (inside l.ring) (times l) (affine l) (linear l ok.modulus (in_carrier l.ring l.c ok.c_in_range))) h.law h.holds d);
     }
-
--- all of a list, in a loop that has gone through it
-pub all_taken : (P : ℕ → Type 0) (xs : List ℕ) (i : ℕ) → length xs ≤ i → All P (take i xs) → All P xs
-all_taken P xs i h all = subst (All P) (take_all i xs h) all

@@ -1,7 +1,7 @@
 -- Laws are judged in one way.
-use Rattle.std.proofs.Common.{◌≡◌, ℕ, ◌<◌, ◌≤◌, ◌⊎◌, inl, inr, ◌∙◌, sym, subst, List, Contains, Some, None, length, get_or, slice_get}
+use Rattle.std.proofs.Common.{◌≡◌, ℕ, ◌∙◌, sym, subst, List, Some}
 use Rattle.std.proofs.lemmas.List.Elements.{All-contains}
-use Rattle.std.proofs.lemmas.Option.{slice_get_cases}
+use Rattle.etp_laws.proofs.NumberLists.{contains_at}
 use Rattle.etp_theory.specs.Trees.{Equation}
 use Rattle.etp_theory.specs.Magmas.{Holds}
 use Rattle.etp_linear.specs.Magmas.{LinearMagma, inside, times}
@@ -9,19 +9,6 @@ use Rattle.etp_linear.specs.Judgements.{LawHolds, LawFails, IsJudged, IsFirstOff
 use Rattle.etp_linear.specs.declared.refusal.LinearRefusal.{LinearRefusal}
 use Rattle.etp_linear.proofs.Failing.{fails}
 use Rattle.etp_linear.proofs.Judged.{fails_by}
-
-some_none : (x : ℕ) → Some x ≡ None → ⊥
-some_none x q = cc
-
-contains_at : (xs : List ℕ) (i n : ℕ) → slice_get xs i ≡ Some n → Contains xs n
-contains_at xs i n e = go (slice_get_cases xs i).1
-  where
-    go : (((x : ℕ) × (i < length xs) × (slice_get xs i ≡ Some x) × (get_or xs i x ≡ x)) ⊎ ((length xs ≤ i) × (slice_get xs i ≡ None))) → Contains xs n
-    go (inl (x, within, is, at)) =
-        let same : Some x ≡ Some n = sym is ∙ e in
-        let eq : x ≡ n = cc in
-        (i, within, (λ j. get_or xs i (sym eq j)) ∙ at ∙ eq)
-    go (inr (past, is)) = absurd (some_none n (sym e ∙ is))
 
 -- one law has one number
 pub both : (laws : List Equation) (l : LinearMagma) (n : ℕ) → LawHolds laws l n → LawFails laws l n → ⊥

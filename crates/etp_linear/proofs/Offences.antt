@@ -1,10 +1,9 @@
 -- A linear magma and its laws are right or have a first offence, and it is the only one.
-use Rattle.std.proofs.Common.{◌≡◌, ℕ, ◌<◌, ◌⊎◌, inl, inr, All, List, Option, None, Some, length, take, slice_get, refl, sym, ◌∙◌, ap, subst, arith}
+use Rattle.std.proofs.Common.{◌≡◌, ℕ, ◌<◌, ◌⊎◌, inl, inr, All, List, Option, None, Some, slice_get, refl, sym, ◌∙◌, ap, subst}
 use Rattle.std.specs.Prelude.{ℤ, pos}
 use Rattle.std.proofs.lemmas.Bool.{cases_order}
-use Rattle.std.proofs.lemmas.List.{get_or-take, length-take}
-use Rattle.std.proofs.lemmas.List.Elements.{All-get_or}
-use Rattle.std.proofs.lemmas.Option.{slice_get_within, get_or_from_slice_get, same_Some}
+use Rattle.std.proofs.lemmas.Option.{same_Some}
+use Rattle.etp_laws.proofs.NumberLists.{at_place, before_place}
 use Rattle.etp_theory.specs.Trees.{Equation}
 use Rattle.etp_theory.specs.Magmas.{meaning}
 use Rattle.etp_theory.specs.LawNumbers.{law_numbered}
@@ -89,17 +88,6 @@ module _ (l : LinearMagma) (e : Equation) where
           (p.right_is ∙ ap (λ u. meaning (times l) (point u) e.right) v ∙ sym q.right_is)
       by (inr (inl h)) = absurd (not_first f g p q h)
       by (inr (inr h)) = absurd (not_first g f q p h)
-
--- what holds of all numbers holds of the one at a place
-at_place : (P : ℕ → Type 0) (xs : List ℕ) (place n : ℕ) → slice_get xs place ≡ Some n → All P xs → P n
-at_place P xs place n h all =
-    subst P (get_or_from_slice_get xs place n n h) (All-get_or P xs place n (slice_get_within xs place n h) all)
-
--- and what holds of the numbers up to a place holds of one before it
-before_place : (P : ℕ → Type 0) (xs : List ℕ) (i j n : ℕ) → i < j → slice_get xs i ≡ Some n → All P (take j xs) → P n
-before_place P xs i j n l h all =
-    let within : i < length (take j xs) = omega (arith, length-take j xs, slice_get_within xs i n h) in
-    subst P (get_or-take j xs i n l ∙ get_or_from_slice_get xs i n n h) (All-get_or P (take j xs) i n within all)
 
 same_number : (xs : List ℕ) (i j m n : ℕ) → i ≡ j → slice_get xs i ≡ Some m → slice_get xs j ≡ Some n → m ≡ n
 same_number xs i j m n e h k = same_Some m n (sym h ∙ ap (slice_get xs) e ∙ k)

@@ -55,6 +55,7 @@ pub record IsFailsOffence (laws : List Equation) (l : LinearMagma) (fails : List
   pub holds : LawHolds laws l number
 
 -- the first offence: of a law of `holds`, else of a law of `fails`
-pub data IsFirstOffence (laws : List Equation) (l : LinearMagma) (holds fails : List ℕ) (r : LinearRefusal) : Type 0 where
+pub data IsFirstOffence (laws : List Equation) (l : LinearMagma) (holds fails : List ℕ)
+    (r : LinearRefusal) : Type 0 where
   in_holds : IsHoldsOffence laws l holds r → IsFirstOffence laws l holds fails r
   in_fails : All (LawHolds laws l) holds → IsFailsOffence laws l fails r → IsFirstOffence laws l holds fails r

@@ -53,4 +53,5 @@ IsFirstOutOfRange l A value = (l.ring ≢ Modulo 0) × (IsCoefficient l.ring l.a
 IsFirstOutOfRange l B value =
     (l.ring ≢ Modulo 0) × IsCoefficient l.ring l.a × (IsCoefficient l.ring l.b → ⊥) × (value ≡ l.b)
 IsFirstOutOfRange l C value =
-    (l.ring ≢ Modulo 0) × IsCoefficient l.ring l.a × IsCoefficient l.ring l.b × (IsCoefficient l.ring l.c → ⊥) × (value ≡ l.c)
+    (l.ring ≢ Modulo 0) × IsCoefficient l.ring l.a × IsCoefficient l.ring l.b × (IsCoefficient l.ring l.c → ⊥)
+    × (value ≡ l.c)

@@ -12,7 +12,9 @@ use Rattle.etp_linear.specs.Remainders.{reduced_inside}
 pub closed_in : (l : LinearMagma) → IsLinearMagma l → IsClosed (inside l.ring) (times l)
 closed_in l ok x y i j = reduced_inside l.ring ok.modulus (l.a *ℤ x +ℤ l.b *ℤ y +ℤ l.c)
 
-pub keeps : (m : Linear) (e f : Equation) → Holds (inside (magma_of m).ring) (times (magma_of m)) e.left e.right → Derives e f → Holds (inside (magma_of m).ring) (times (magma_of m)) f.left f.right
+pub keeps : (m : Linear) (e f : Equation)
+    → Holds (inside (magma_of m).ring) (times (magma_of m)) e.left e.right → Derives e f
+    → Holds (inside (magma_of m).ring) (times (magma_of m)) f.left f.right
 keeps m e f h d = sound (inside (magma_of m).ring) (times (magma_of m)) (closed_in (magma_of m) m.in_range) e h d
 
 pub stays : (m : Linear) → IsClosed (inside (magma_of m).ring) (times (magma_of m))

@@ -20,7 +20,8 @@ impl Linear {
         requires right_ops { ops (tree_of law.now.right) ≤ 5 }
         requires left_variables { bound (tree_of law.now.left) ≤ 8 }
         requires right_variables { bound (tree_of law.now.right) ≤ 8 }
-        ensures none { IsNone result ↔ Holds (inside (magma_of self.now).ring) (times (magma_of self.now)) (tree_of law.now.left) (tree_of law.now.right) }
+        ensures none { IsNone result ↔ Holds (inside (magma_of self.now).ring)
+            (times (magma_of self.now)) (tree_of law.now.left) (tree_of law.now.right) }
         ensures some { IfSome result (λ failure. IsFirstFailure (magma_of self.now) (equation_of law.now) failure) }
     {
         let left = self.form_of(&law.left);

@@ -1,32 +1,20 @@
 -- Matching by partial maps: one part after the other, and what every other substitution then has.
-use Rattle.std.proofs.Common.{◌≡◌, ℕ, ◌⊎◌, inl, inr, Bool, true, false, cond, eqb, List, [], ◌∷◌, ◌++◌, map, Option, Some, None, refl, sym, ap, ap₂, ◌∙◌, subst, eqb-true, eq-eqb}
-use Rattle.std.proofs.lemmas.Bool.{eqb-false, ne_eqb}
+use Rattle.std.proofs.Common.{◌≡◌, ℕ, ◌⊎◌, inl, inr, Bool, true, false, cond, eqb, List, [], ◌∷◌, ◌++◌, map, Option, Some, None, refl, sym, ap, ap₂, ◌∙◌, subst, eq-eqb}
+use Rattle.std.proofs.lemmas.Bool.{ne_eqb}
 use Rattle.etp_theory.specs.Trees.{Tree, var, op, Occurs}
 use Rattle.etp_theory.specs.Substitutions.{apply, Partial, total, value_or}
 use Rattle.etp_theory.specs.Strategy.{first_some}
 use Rattle.etp_theory.proofs.Matching.{apply_agree, agree_of_apply}
+use Rattle.etp_theory.proofs.Unifiers.{occurs_dec}
 use Rattle.etp_term.specs.Terms.{tree_of}
 use Rattle.etp_term.specs.declared.term.Term.{Term}
 use Rattle.etp_match.specs.Bindings.{value_of, entry_of, map_of, partial_of}
 use Rattle.etp_match.specs.Matching.{Extends, NoneMatches, IsExtendedTo}
 use Rattle.etp_match.specs.declared.subst.Binding.{Binding}
 
-pub occurs_or_not : (v : ℕ) (t : Tree) → Occurs v t ⊎ (Occurs v t → ⊥)
-occurs_or_not v (var x) = go (eqb x v) refl
-  where
-    go : (b : Bool) → eqb x v ≡ b → Occurs v (var x) ⊎ (Occurs v (var x) → ⊥)
-    go true e = inl (eqb-true x v e)
-    go false e = inr (eqb-false x v e)
-occurs_or_not v (op a b) = go (occurs_or_not v a) (occurs_or_not v b)
-  where
-    go : Occurs v a ⊎ (Occurs v a → ⊥) → Occurs v b ⊎ (Occurs v b → ⊥) → Occurs v (op a b) ⊎ (Occurs v (op a b) → ⊥)
-    go (inl x) y = inl (inl x)
-    go (inr x) (inl y) = inl (inr y)
-    go (inr x) (inr y) = inr (λ o. elim o [ inl p ↦ x p | inr p ↦ y p ])
-
 -- a substitution with the earlier values that does the same has the later values too
 pub extends_on : (p t : Tree) (e l : Partial) → IsExtendedTo p t e l → (m : ℕ → Tree) → Extends e m → apply m p ≡ t → Extends l m
-extends_on p t e l x m h k v u q = go (occurs_or_not v p)
+extends_on p t e l x m h k v u q = go (occurs_dec v p)
   where
     go : Occurs v p ⊎ (Occurs v p → ⊥) → m v ≡ u
     go (inl o) = agree_of_apply m (total l) p (k ∙ sym x.matched) v o ∙ ap (λ z. value_or z (var v)) q

@@ -1,25 +1,24 @@
 -- Where a pattern first doesn't match.
 use Rattle.std.proofs.Common.{◌≡◌, ℕ, ◌⊎◌, inl, inr, Bool, true, false, cond, eqb, List, [], ◌∷◌, ◌++◌, Option, Some, None, refl, sym, ap, ap₂, ◌∙◌, subst, eqb-true, eq-eqb}
+use Rattle.std.proofs.lemmas.Option.{same_Some}
 use Rattle.etp_theory.specs.Trees.{Tree, var, op, Occurs}
 use Rattle.etp_theory.specs.Substitutions.{apply, Partial, total, value_or}
 use Rattle.etp_theory.specs.Positions.{Side, to_left, to_right, sub_at}
 use Rattle.etp_theory.proofs.Theorems.{position_theorems}
+use Rattle.etp_theory.proofs.Unifiers.{occurs_dec}
 use Rattle.etp_term.specs.Positions.{side_of, position_of}
 use Rattle.etp_term.specs.declared.position.Side as Program
 use Rattle.etp_match.specs.Matching.{Extends, NoneMatches, IsExtendedTo, Before, MisfitAt, operation, valued, repeated, IsFirstMisfit}
-use Rattle.etp_match.proofs.Extending.{occurs_or_not, later_extends, still_matches}
-
-some_is : {a b : Tree} → Some a ≡ Some b → a ≡ b
-some_is h = cc
+use Rattle.etp_match.proofs.Extending.{later_extends, still_matches}
 
 -- where a substitution with the earlier values takes the pattern to the term, nothing is amiss
 pub no_misfit : (e : Partial) (p t : Tree) (m : ℕ → Tree) → Extends e m → apply m p ≡ t → (q : List Side) → MisfitAt e p t q → ⊥
 no_misfit e p t m x h q (operation a b v y z) =
     let k : Some (apply m (op a b)) ≡ Some (var v) = sym (position_theorems.sub_at_applied q m p (op a b) y) ∙ ap (sub_at q) h ∙ z in cc
 no_misfit e p t m x h q (valued v s u y z k n) =
-    n (sym (x v u k) ∙ some_is (sym (position_theorems.sub_at_applied q m p (var v) y) ∙ ap (sub_at q) h ∙ z))
+    n (sym (x v u k) ∙ same_Some _ _ (sym (position_theorems.sub_at_applied q m p (var v) y) ∙ ap (sub_at q) h ∙ z))
 no_misfit e p t m x h q (repeated r v s u b y z y' z' n) =
-    n (some_is (sym z' ∙ ap (sub_at r) (sym h) ∙ position_theorems.sub_at_applied r m p (var v) y' ∙ sym (position_theorems.sub_at_applied q m p (var v) y) ∙ ap (sub_at q) h ∙ z))
+    n (same_Some _ _ (sym z' ∙ ap (sub_at r) (sym h) ∙ position_theorems.sub_at_applied r m p (var v) y' ∙ sym (position_theorems.sub_at_applied q m p (var v) y) ∙ ap (sub_at q) h ∙ z))
 
 pub matched_clear : (e l : Partial) (p t : Tree) → IsExtendedTo p t e l → (q : List Side) → MisfitAt e p t q → ⊥
 matched_clear e l p t x = no_misfit e p t (total l) (later_extends p t e l x) x.matched
@@ -43,7 +42,7 @@ inside_left e a b c d q (repeated (to_left ∷ r) v t u i h k y z n) = repeated 
 inside_left e a b c d q (repeated (to_right ∷ r) v t u i h k y z n) = absurd i
 
 occurs_at : (q : List Side) (p : Tree) (v : ℕ) → sub_at q p ≡ Some (var v) → Occurs v p
-occurs_at [] (var x) v h = let k : var x ≡ var v = some_is h in cc
+occurs_at [] (var x) v h = let k : var x ≡ var v = same_Some _ _ h in cc
 occurs_at [] (op a b) v h = absurd (cc)
 occurs_at (to_left ∷ q) (var x) v h = absurd (cc)
 occurs_at (to_left ∷ q) (op a b) v h = inl (occurs_at q a v h)
@@ -68,7 +67,7 @@ data Origin (e : Partial) (p t : Tree) (v : ℕ) (u : Tree) : Type 0 where
   placed : (q : List Side) → sub_at q p ≡ Some (var v) → sub_at q t ≡ Some u → Origin e p t v u
 
 origin_of : (p t : Tree) (e l : Partial) → IsExtendedTo p t e l → (v : ℕ) (u : Tree) → l.value v ≡ Some u → Origin e p t v u
-origin_of p t e l x v u h = go (occurs_or_not v p)
+origin_of p t e l x v u h = go (occurs_dec v p)
   where
     go : Occurs v p ⊎ (Occurs v p → ⊥) → Origin e p t v u
     go (inl o) =

@@ -4,6 +4,7 @@ use Rattle.std.proofs.Math.ListN.{set, length-set}
 use Rattle.std.specs.List.{list_any}
 use Rattle.std.proofs.lemmas.Bool.{ne_eqb}
 use Rattle.std.proofs.lemmas.Map.Steps.{le-length_from_below}
+use Rattle.std.proofs.lemmas.Option.{same_Some}
 use Rattle.etp_theory.specs.Trees.{Tree}
 use Rattle.etp_term.specs.Terms.{tree_of}
 use Rattle.etp_match.specs.Bindings.{value_of, entry_of}
@@ -12,9 +13,6 @@ use Rattle.etp_match.specs.declared.table.Bound.{Bound}
 
 abbrev pub entries : List Bound → List (ℕ × Tree)
 entries bound = map entry_of (map binding_of bound)
-
-some_is : {A : Type 0} {x y : A} → Some x ≡ Some y → x ≡ y
-some_is h = cc
 
 -- where no bound variable is this one, it has no value, and the other way round
 absent : (xs : List Bound) (v : ℕ) → ((k : ℕ) (b : Bound) → slice_get xs k ≡ Some b → b.variable ≡ v → ⊥) → value_of (entries xs) v ≡ None
@@ -30,7 +28,7 @@ rest_none false t o h = h
 none_is : (xs : List Bound) (v : ℕ) → value_of (entries xs) v ≡ None → (k : ℕ) (b : Bound) → slice_get xs k ≡ Some b → b.variable ≡ v → ⊥
 none_is [] v h k b g e = let f : None ≡ Some b = g in cc
 none_is (x ∷ xs) v h zero b g e =
-    let same : x ≡ b = some_is g in
+    let same : x ≡ b = same_Some _ _ g in
     let here : x.variable ≡ v = ap (λ (y : Bound). y.variable) same ∙ e in
     let f : Some (tree_of x.value.now) ≡ None = sym (ap (λ c. cond c (Some (tree_of x.value.now)) (value_of (entries xs) v)) (eq-eqb x.variable v here)) ∙ h in cc
 none_is (x ∷ xs) v h (suc k) b g e = none_is xs v (rest_none (eqb x.variable v) (tree_of x.value.now) (value_of (entries xs) v) h) k b g e
@@ -39,7 +37,7 @@ none_is (x ∷ xs) v h (suc k) b g e = none_is xs v (rest_none (eqb x.variable v
 present : (xs : List Bound) (k : ℕ) (b : Bound) → slice_get xs k ≡ Some b → ((j : ℕ) (c : Bound) → slice_get xs j ≡ Some c → c.variable ≡ b.variable → j ≡ k) → value_of (entries xs) b.variable ≡ Some (tree_of b.value.now)
 present [] k b h u = let f : None ≡ Some b = h in absurd (cc)
 present (x ∷ xs) zero b h u =
-    let same : x ≡ b = some_is h in
+    let same : x ≡ b = same_Some _ _ h in
     subst (λ (y : Bound). cond (eqb y.variable b.variable) (Some (tree_of y.value.now)) (value_of (entries xs) b.variable) ≡ Some (tree_of b.value.now)) (sym same)
     (ap (λ c. cond c (Some (tree_of b.value.now)) (value_of (entries xs) b.variable)) (eq-eqb b.variable b.variable refl))
 present (x ∷ xs) (suc k) b h u =
@@ -48,11 +46,11 @@ present (x ∷ xs) (suc k) b h u =
 
 module _ (xs : List Bound) (places : List ℕ) (i : IsIndex xs places) where
   one_place : (j k : ℕ) (c b : Bound) → slice_get xs j ≡ Some c → slice_get xs k ≡ Some b → c.variable ≡ b.variable → j ≡ k
-  one_place j k c b g h e = some_is (sym (i.placed j c g) ∙ ap (slice_get places) e ∙ i.placed k b h)
+  one_place j k c b g h e = same_Some _ _ (sym (i.placed j c g) ∙ ap (slice_get places) e ∙ i.placed k b h)
 
   module _ (v p : ℕ) (at : slice_get places v ≡ Some p) where
     placed_there : (j : ℕ) (c : Bound) → slice_get xs j ≡ Some c → c.variable ≡ v → j ≡ p
-    placed_there j c g e = some_is (sym (i.placed j c g) ∙ ap (slice_get places) e ∙ at)
+    placed_there j c g e = same_Some _ _ (sym (i.placed j c g) ∙ ap (slice_get places) e ∙ at)
 
     pub value_there : (b : Bound) → slice_get xs p ≡ Some b → b.variable ≡ v → value_of (entries xs) v ≡ Some (tree_of b.value.now)
     value_there b h e =
@@ -60,7 +58,7 @@ module _ (xs : List Bound) (places : List ℕ) (i : IsIndex xs places) where
 
     pub other_there : (b : Bound) → slice_get xs p ≡ Some b → (b.variable ≡ v → ⊥) → value_of (entries xs) v ≡ None
     other_there b h n = absent xs v (λ j c g e.
-        let same : c ≡ b = some_is (sym (subst (λ k. slice_get xs k ≡ Some c) (placed_there j c g e) g) ∙ h) in
+        let same : c ≡ b = same_Some _ _ (sym (subst (λ k. slice_get xs k ≡ Some c) (placed_there j c g e) g) ∙ h) in
         n (ap (λ (y : Bound). y.variable) (sym same) ∙ e))
 
     pub none_there : slice_get xs p ≡ None → value_of (entries xs) v ≡ None
@@ -79,7 +77,7 @@ set_elsewhere (y ∷ ys) (suc i) zero x h = refl
 set_elsewhere (y ∷ ys) (suc i) (suc j) x h = set_elsewhere ys i j x (λ e. h (ap suc e))
 
 end_at : (xs : List Bound) (b : Bound) (k : ℕ) (c : Bound) → slice_get (xs ++ b ∷ []) k ≡ Some c → (slice_get xs k ≡ Some c) ⊎ ((k ≡ length xs) × (b ≡ c))
-end_at [] b zero c h = inr (refl, some_is h)
+end_at [] b zero c h = inr (refl, same_Some _ _ h)
 end_at [] b (suc k) c h = let f : None ≡ Some c = h in absurd (cc)
 end_at (x ∷ xs) b zero c h = inl h
 end_at (x ∷ xs) b (suc k) c h = elim (end_at xs b k c h) [ inl g ↦ inl g | inr g ↦ inr (ap suc g.0, g.1) ]
@@ -102,7 +100,7 @@ or_true false = refl
 
 any_at : (xs : List ℕ) (k q : ℕ) → slice_get xs k ≡ Some q → list_any (eqb q) xs ≡ true
 any_at [] k q h = let f : None ≡ Some q = h in absurd (cc)
-any_at (x ∷ xs) zero q h = ap (λ b. b || list_any (eqb q) xs) (eq-eqb q x (sym (some_is h)))
+any_at (x ∷ xs) zero q h = ap (λ b. b || list_any (eqb q) xs) (eq-eqb q x (sym (same_Some _ _ h)))
 any_at (x ∷ xs) (suc k) q h = ap (λ b. eqb q x || b) (any_at xs k q h) ∙ or_true (eqb q x)
 
 stands : (xs : List Bound) (k : ℕ) → k < length xs → (b : Bound) × (slice_get xs k ≡ Some b)

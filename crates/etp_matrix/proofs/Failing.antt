@@ -3,6 +3,7 @@ use Rattle.std.proofs.Common.{◌≡◌, ◌≢◌, ℕ, ◌<◌, ◌≤◌, ◌
 use Rattle.std.specs.Prelude.{IsTrue}
 use Rattle.std.proofs.lemmas.List.{ext_get_or}
 use Rattle.std.proofs.lemmas.List.FromFn.{length-map-range_with_len}
+use Rattle.std.proofs.lemmas.Bool.{cases_lt}
 use Rattle.etp_theory.specs.Trees.{Tree, Equation, bound}
 use Rattle.etp_theory.specs.Magmas.{meaning, Holds}
 use Rattle.etp_forms.specs.Forms.{coefficient, HaveOneForm}
@@ -14,7 +15,7 @@ use Rattle.etp_matrix.specs.Walks.{IsVector, Form, matrix_at, HasNumbers, AreAll
 use Rattle.etp_matrix.specs.declared.parts.MatrixFailure.{MatrixFailure}
 use Rattle.etp_matrix.proofs.Sums.{from_vector}
 use Rattle.etp_matrix.proofs.Modules.{zeros_vector, unit_vector, units, unit_of, among_units, generate, none_there, plus_cancelled, constant_vector}
-use Rattle.etp_matrix.proofs.Wide.{below_or, wider_injective, wider_padded, wider_plus}
+use Rattle.etp_matrix.proofs.Wide.{wider_injective, wider_padded, wider_plus}
 use Rattle.etp_matrix.proofs.Magmas.{some, is_linear, column_vector, column_at}
 
 module _ (g : MatrixMagma) (ok : IsMatrixMagma g) where
@@ -84,7 +85,7 @@ module _ (g : MatrixMagma) (ok : IsMatrixMagma g) where
     same_columns v h k i s = padded_injective _ _ (column_vector g ok e.left v k) (column_vector g ok e.right v k) (sym (of_left.columns v h k i) ∙ s ∙ of_right.columns v h k i)
 
     pub holds : left.constant ≡ right.constant → AreAllSame g.size left.matrices right.matrices → Holds (inside g) (times g) e.left e.right
-    holds s a = holds_by e.left e.right (same_constants s) (λ v k i. each v k i (below_or v 8))
+    holds s a = holds_by e.left e.right (same_constants s) (λ v k i. each v k i (cases_lt v 8))
       where
         each : (v k : ℕ) → k < g.size → (v < 8) ⊎ (8 ≤ v) → column_of g e.left v k ≡ column_of g e.right v k
         each v k i (inl h) = same_columns v h k i (a v h k i)

@@ -1,7 +1,7 @@
 -- A walk through a term: what it has added to a form.
 use Rattle.std.proofs.Common.{◌≡◌, ◌≢◌, ℕ, ◌+◌, ◌*◌, ◌%◌, ◌<◌, ◌≤◌, ◌⊎◌, inl, inr, refl, sym, ap, ap₂, ◌∙◌, subst, arith, mod-eq_of_lt, eq-eqb, Bool, true, false, cond, eqb, List, [], length, take, get_or, replicate}
 use Rattle.std.specs.Prelude.{◌&&◌, nat_lt}
-use Rattle.std.proofs.lemmas.Bool.{lt-ltb, le-ltb, eqb-true}
+use Rattle.std.proofs.lemmas.Bool.{lt-ltb, le-ltb, eqb-true, cases_lt}
 use Rattle.std.proofs.lemmas.List.{get_or-take, get_or-replicate}
 use Rattle.std.proofs.lemmas.Nat.{mul-add-lt}
 use Rattle.etp_theory.specs.Trees.{Tree, var, op, bound}
@@ -13,7 +13,7 @@ use Rattle.etp_matrix.specs.Walks.{IsVector, AreVectors, applied, wide, wide_col
 use Rattle.etp_matrix.specs.declared.matrix_linear.MatrixLinear.{MatrixLinear}
 use Rattle.etp_matrix.proofs.Sums.{at, past, is_vector, vectors_same}
 use Rattle.etp_matrix.proofs.Modules.{IsAdditive, coefficient_vector, constant_vector, plus_vector, product_vector, zeros_vector, unit_vector, plus_associative, plus_commutative, plus_neutral, product_additive, product_zeros, product_unit, product_is_additive, composed, agree}
-use Rattle.etp_matrix.proofs.Wide.{below_or, wider, is_wider, wider_vector, wider_unit, wider_coefficient, wider_constant, wider_padded}
+use Rattle.etp_matrix.proofs.Wide.{wider, is_wider, wider_vector, wider_unit, wider_coefficient, wider_constant, wider_padded}
 use Rattle.etp_matrix.proofs.Magmas as Magmas
 
 -- ---- matrices that are given column by column
@@ -77,7 +77,7 @@ pub wide_none : (size : ℕ) (a : List ℕ) (i j : ℕ) → size ≤ i → wide 
 wide_none size a i j h = ap (λ p. cond (p && nat_lt j size) (entry size a i j) 0) (le-ltb i size h)
 
 pub wide_below : (m size : ℕ) (a : List ℕ) → 0 < m → AreBelow m (take (size * size) a) → (i j : ℕ) → wide size a i j < m
-wide_below m size a some all i j = go (below_or i size) (below_or j size)
+wide_below m size a some all i j = go (cases_lt i size) (cases_lt j size)
   where
     go : (i < size) ⊎ (size ≤ i) → (j < size) ⊎ (size ≤ j) → wide size a i j < m
     go (inl h) (inl k) = subst (λ w. w < m) (sym (wide_same size a i j h k)) (Magmas.below_at m (take (size * size) a) some all (i * size + j))
@@ -105,7 +105,7 @@ module _ (l : MatrixLinear) (long_c : length l.c ≡ 4) where
   V = IsVector l.modulus 4
 
   c_is_wider : l.c ≡ wider l.modulus l.size 4 some ok.shape.at_most (take l.size l.c)
-  c_is_wider = is_wider l.modulus l.size 4 some ok.shape.at_most (take l.size l.c) l.c long_c (λ i h. each i (below_or i l.size))
+  c_is_wider = is_wider l.modulus l.size 4 some ok.shape.at_most (take l.size l.c) l.c long_c (λ i h. each i (cases_lt i l.size))
     where
       each : (i : ℕ) → (i < l.size) ⊎ (l.size ≤ i) → get_or l.c i 0 ≡ get_or (take l.size l.c) i 0
       each i (inl h) = sym (get_or-take l.size l.c i 0 h)

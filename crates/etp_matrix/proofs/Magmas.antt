@@ -1,21 +1,20 @@
 -- Matrix-linear magmas have linear forms.
-use Rattle.std.proofs.Common.{◌≡◌, ℕ, ◌+◌, ◌%◌, ◌<◌, ◌≤◌, ◌⊎◌, inl, inr, sym, ap, ap₂, ◌∙◌, arith, List, get_or, length}
+use Rattle.std.proofs.Common.{◌≡◌, ℕ, ◌+◌, ◌%◌, ◌<◌, ◌≤◌, ◌⊎◌, inl, inr, sym, ap, ap₂, ◌∙◌, arith, List, get_or, length, mod-eq_of_lt}
 use Rattle.std.specs.Prelude.{IsTrue}
 use Rattle.std.proofs.lemmas.List.FromFn.{get_or-map-range_with_len}
 use Rattle.std.proofs.lemmas.List.Elements.{All-get_or}
 use Rattle.std.proofs.Math.Nat.{mod-add-mod}
-use Rattle.std.proofs.Common.{mod-eq_of_lt}
+use Rattle.std.proofs.lemmas.Bool.{cases_lt}
 use Rattle.etp_theory.specs.Trees.{Tree}
 use Rattle.etp_forms.specs.Forms.{coefficient, IsLinear}
 use Rattle.etp_matrix.specs.Magmas.{MatrixMagma, IsMatrixMagma, AreBelow, inside, times, entry, row_times}
 use Rattle.etp_matrix.specs.Values.{affine, plus, product, unit, column_of, matrix_of, by_columns}
 use Rattle.etp_matrix.specs.Walks.{IsVector}
 use Rattle.etp_matrix.proofs.Sums.{at, past, vectors_same, is_vector, to_vector}
-use Rattle.etp_matrix.proofs.Wide.{below_or}
 use Rattle.etp_matrix.proofs.Modules.{plus_at, product_is_additive, product_unit, coefficient_is_additive, unit_vector, agree, linear}
 
 pub below_at : (m : ℕ) (xs : List ℕ) → 0 < m → AreBelow m xs → (i : ℕ) → get_or xs i 0 < m
-below_at m xs some all i = go (below_or i (length xs))
+below_at m xs some all i = go (cases_lt i (length xs))
   where
     go : (i < length xs) ⊎ (length xs ≤ i) → get_or xs i 0 < m
     go (inl h) = All-get_or (λ k. k < m) xs i 0 h all

@@ -2,6 +2,7 @@
 use Rattle.std.proofs.Common.{◌≡◌, ℕ, ◌+◌, ◌*◌, ◌-◌, ◌%◌, ◌<◌, ◌≤◌, ◌⊎◌, inl, inr, refl, sym, ap, ap₂, ◌∙◌, subst, arith, ne_eqb, Bool, true, false, cond, eqb, List, ◌++◌, length, replicate, get_or}
 use Rattle.std.proofs.lemmas.List.{ext_get_or, get_or_append_left, get_or-append_right, get_or-replicate, length-append, length-replicate}
 use Rattle.std.proofs.Math.Nat.{zero-mod}
+use Rattle.std.proofs.lemmas.Bool.{cases_lt}
 use Rattle.etp_theory.specs.Trees.{Tree, var, op}
 use Rattle.etp_forms.specs.Forms.{coefficient, constant}
 use Rattle.etp_matrix.specs.Magmas.{vector, sum_below}
@@ -10,9 +11,6 @@ use Rattle.etp_matrix.specs.Failures.{padded}
 use Rattle.etp_matrix.specs.Walks.{IsVector}
 use Rattle.etp_matrix.proofs.Sums.{long, at, past, is_vector, vectors_same, sums_same, sum_zero, sum_longer}
 use Rattle.etp_matrix.proofs.Modules.{plus_vector, product_vector, coefficient_vector, constant_vector}
-
-pub below_or : (i n : ℕ) → (i < n) ⊎ (n ≤ i)
-below_or i n = grind arith
 
 module _ (m size n : ℕ) (some : 0 < m) (fits : size ≤ n) where
   abbrev V : List ℕ → Type 0
@@ -23,7 +21,7 @@ module _ (m size n : ℕ) (some : 0 < m) (fits : size ≤ n) where
 
   pub wider_at : (x : List ℕ) → V x → (i : ℕ) → get_or (wider x) i 0 ≡ get_or x i 0
   unfolding wider
-  wider_at x v i = go (below_or i n)
+  wider_at x v i = go (cases_lt i n)
     where
       go : (i < n) ⊎ (n ≤ i) → get_or (vector n (λ i. get_or x i 0)) i 0 ≡ get_or x i 0
       go (inl h) = at n (λ i. get_or x i 0) i h
@@ -36,7 +34,7 @@ module _ (m size n : ℕ) (some : 0 < m) (fits : size ≤ n) where
 
   pub wider_plus : (x y : List ℕ) → V x → V y → wider (plus m size x y) ≡ plus m n (wider x) (wider y)
   unfolding wider
-  wider_plus x y v w = vectors_same n _ _ (λ i h. each i (below_or i size) ∙ sym (ap₂ (λ a b. (a + b) % m) (at n (λ i. get_or x i 0) i h) (at n (λ i. get_or y i 0) i h)))
+  wider_plus x y v w = vectors_same n _ _ (λ i h. each i (cases_lt i size) ∙ sym (ap₂ (λ a b. (a + b) % m) (at n (λ i. get_or x i 0) i h) (at n (λ i. get_or y i 0) i h)))
     where
       each : (i : ℕ) → (i < size) ⊎ (size ≤ i) → get_or (plus m size x y) i 0 ≡ (get_or x i 0 + get_or y i 0) % m
       each i (inl h) = at size _ i h
@@ -46,7 +44,7 @@ module _ (m size n : ℕ) (some : 0 < m) (fits : size ≤ n) where
 
   pub wider_product : (a wide : ℕ → ℕ → ℕ) → ((i j : ℕ) → i < size → j < size → wide i j ≡ a i j) → ((i j : ℕ) → size ≤ i → wide i j ≡ 0) → (x : List ℕ) → V x → wider (product m size a x) ≡ product m n wide (wider x)
   unfolding wider
-  wider_product a wide same none x v = vectors_same n _ _ (λ i h. each i (below_or i size))
+  wider_product a wide same none x v = vectors_same n _ _ (λ i h. each i (cases_lt i size))
     where
       each : (i : ℕ) → (i < size) ⊎ (size ≤ i) → get_or (product m size a x) i 0 ≡ sum_below n (λ j. wide i j * get_or (wider x) j 0) % m
       each i (inl h) =
@@ -60,7 +58,7 @@ module _ (m size n : ℕ) (some : 0 < m) (fits : size ≤ n) where
 
   pub wider_zeros : wider (zeros size) ≡ zeros n
   unfolding wider
-  wider_zeros = vectors_same n _ _ (λ i h. each i (below_or i size))
+  wider_zeros = vectors_same n _ _ (λ i h. each i (cases_lt i size))
     where
       each : (i : ℕ) → (i < size) ⊎ (size ≤ i) → get_or (zeros size) i 0 ≡ 0
       each i (inl h) = at size (λ i. 0) i h
@@ -68,7 +66,7 @@ module _ (m size n : ℕ) (some : 0 < m) (fits : size ≤ n) where
 
   pub wider_unit : (k : ℕ) → k < size → wider (unit m size k) ≡ unit m n k
   unfolding wider
-  wider_unit k l = vectors_same n _ _ (λ i h. each i (below_or i size))
+  wider_unit k l = vectors_same n _ _ (λ i h. each i (cases_lt i size))
     where
       each : (i : ℕ) → (i < size) ⊎ (size ≤ i) → get_or (unit m size k) i 0 ≡ cond (eqb i k) (1 % m) 0
       each i (inl h) = at size _ i h
@@ -79,7 +77,7 @@ module _ (m size n : ℕ) (some : 0 < m) (fits : size ≤ n) where
 
   pub wider_vector : (x : List ℕ) → V x → IsVector m n (wider x)
   unfolding wider
-  wider_vector x v = record { long = long n _; below = λ i h. subst (λ z. z < m) (sym (at n (λ i. get_or x i 0) i h)) (each i (below_or i size)) }
+  wider_vector x v = record { long = long n _; below = λ i h. subst (λ z. z < m) (sym (at n (λ i. get_or x i 0) i h)) (each i (cases_lt i size)) }
     where
       each : (i : ℕ) → (i < size) ⊎ (size ≤ i) → get_or x i 0 < m
       each i (inl h) = v.below i h
@@ -122,7 +120,7 @@ module _ (m size n : ℕ) (some : 0 < m) (fits : size ≤ n) where
 -- the wider vector of four places is the padded one
 pub wider_padded : (m size : ℕ) (some : 0 < m) (fits : size ≤ 4) (x : List ℕ) → IsVector m size x → wider m size 4 some fits x ≡ padded x
 wider_padded m size some fits x v =
-    sym (is_wider m size 4 some fits x (padded x) (length-append x _ ∙ omega (arith, length-replicate {A = ℕ} (4 - length x) 0, v.long)) (λ i h. each i h (below_or i (length x))))
+    sym (is_wider m size 4 some fits x (padded x) (length-append x _ ∙ omega (arith, length-replicate {A = ℕ} (4 - length x) 0, v.long)) (λ i h. each i h (cases_lt i (length x))))
   where
     each : (i : ℕ) → i < 4 → (i < length x) ⊎ (length x ≤ i) → get_or (x ++ replicate (4 - length x) 0) i 0 ≡ get_or x i 0
     each i h (inl l) = get_or_append_left x (replicate (4 - length x) 0) 0 i l

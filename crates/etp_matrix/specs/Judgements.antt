@@ -56,6 +56,7 @@ pub record IsFailsOffence (laws : List Equation) (g : MatrixMagma) (fails : List
   pub holds : LawHolds laws g number
 
 -- the first offence: of a law of `holds`, else of a law of `fails`
-pub data IsFirstOffence (laws : List Equation) (g : MatrixMagma) (holds fails : List ℕ) (r : MatrixRefusal) : Type 0 where
+pub data IsFirstOffence (laws : List Equation) (g : MatrixMagma) (holds fails : List ℕ)
+    (r : MatrixRefusal) : Type 0 where
   in_holds : IsHoldsOffence laws g holds r → IsFirstOffence laws g holds fails r
   in_fails : All (LawHolds laws g) holds → IsFailsOffence laws g fails r → IsFirstOffence laws g holds fails r

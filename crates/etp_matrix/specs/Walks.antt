@@ -66,7 +66,8 @@ pub record Gains (l : MatrixLinear) (t : Tree) (factor : List (List ℕ)) (old n
 pub record HasNumbers (g : MatrixMagma) (t : Tree) (form : Form) : Type 0 where
   pub inside : AreVectorsOf g.modulus form
   pub constant : form.constant ≡ padded (constant_of g t)
-  pub columns : (v : ℕ) → v < 8 → (k : ℕ) → k < g.size → column (matrix_at form.matrices v) k ≡ padded (column_of g t v k)
+  pub columns : (v : ℕ) → v < 8 → (k : ℕ) → k < g.size
+      → column (matrix_at form.matrices v) k ≡ padded (column_of g t v k)
 
 -- the first column below the size in which two matrices differ
 pub record IsFirstColumn (size : ℕ) (p q : List (List ℕ)) (k : ℕ) : Type 0 where

@@ -19,7 +19,8 @@ impl MatrixLinear {
     pub fn first_failure(&self, law: &Law) -> Option<MatrixFailure>
         requires left_variables { bound (tree_of law.now.left) ≤ 8 }
         requires right_variables { bound (tree_of law.now.right) ≤ 8 }
-        ensures none { IsNone result ↔ Holds (inside (magma_of self.now)) (times (magma_of self.now)) (tree_of law.now.left) (tree_of law.now.right) }
+        ensures none { IsNone result ↔ Holds (inside (magma_of self.now))
+            (times (magma_of self.now)) (tree_of law.now.left) (tree_of law.now.right) }
         ensures some { IfSome result (λ failure. IsFirstFailure (magma_of self.now) (equation_of law.now) failure) }
     {
         let mut left = [[[0; 4]; 4]; 8];
@@ -53,7 +54,8 @@ impl MatrixLinear {
 /// The least column of the least variable in which two forms differ.
 fn first_difference(left: &Matrices, right: &Matrices, size: u8) -> Option<(u8, u8)>
     requires { size ≤ 4 }
-    ensures { MatchOption result (AreAllSame size left.now right.now) (λ at. IsFirstDifference size left.now right.now at) }
+    ensures { MatchOption result (AreAllSame size left.now right.now)
+        (λ at. IsFirstDifference size left.now right.now at) }
 {
     for v in 0..8 {
         match first_column(&left[v as usize], &right[v as usize], size) {

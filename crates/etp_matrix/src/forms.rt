@@ -23,7 +23,8 @@ impl MatrixLinear {
     /// Adds the factor times the term's form. The factor is handed down to each place of a variable.
     fn gain(&self, term: &Term, factor: &Columns, matrices: &mut Matrices, constant: &mut Vector)
         requires { CanGain self.now (tree_of term.now) factor.now (form matrices.old constant.old) }
-        ensures { Gains self.now (tree_of term.now) factor.now (form matrices.old constant.old) (form matrices.new constant.new) }
+        ensures { Gains self.now (tree_of term.now) factor.now (form matrices.old constant.old)
+            (form matrices.new constant.new) }
     {
         match term {
             Term::Var(v) => {

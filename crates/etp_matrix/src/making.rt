@@ -18,9 +18,11 @@ impl MatrixLinear {
         c: &[u32],
     ) -> Result<MatrixLinear, MatrixRefusal>
         requires { IsShape size a.now b.now c.now }
-        ensures ok { IfOk result (λ linear. magma_of linear ≡ record { modulus = modulus; size = size; a = a.now; b = b.now; c = c.now }) }
+        ensures ok { IfOk result (λ linear. magma_of linear
+            ≡ record { modulus = modulus; size = size; a = a.now; b = b.now; c = c.now }) }
         ensures in_range { IfOk result (λ linear. IsMatrixMagma (magma_of linear)) }
-        ensures err { IfErr result (λ r. IsOutOfRange (record { modulus = modulus; size = size; a = a.now; b = b.now; c = c.now }) r) }
+        ensures err { IfErr result (λ r. IsOutOfRange
+            (record { modulus = modulus; size = size; a = a.now; b = b.now; c = c.now }) r) }
     {
         if modulus < 1 || modulus > 1000000 {
             return Err(MatrixRefusal::Modulus { value: modulus });

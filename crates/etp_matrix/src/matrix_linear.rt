@@ -10,6 +10,13 @@ pub struct MatrixLinear {
     pub(crate) a: [u32; 16],
     pub(crate) b: [u32; 16],
     pub(crate) c: [u32; 4],
-    ghost in_range: { IsMatrixMagma (record { modulus = modulus; size = size; a = take (size * size) a; b = take (size * size) b; c = take size c }) },
+    ghost in_range: { IsMatrixMagma
+        (record {
+          modulus = modulus;
+          size = size;
+          a = take (size * size) a;
+          b = take (size * size) b;
+          c = take size c;
+        }) },
     ghost past_size: { (i : ℕ) → size ≤ i → slice_index c i ≡ 0 },
 }

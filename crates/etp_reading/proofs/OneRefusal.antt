@@ -1,16 +1,15 @@
 -- Lines are read in one way and have one refusal, and lines that are read have none.
-use Rattle.std.proofs.Common.{◌≡◌, ℕ, ◌<◌, ◌≤◌, arith, Bool, true, false, ◌&&◌, List, [], ◌∷◌, ◌++◌, length, take, drop, All, refl, sym, ap, subst, ◌∙◌, inl, inr, Some, None}
+use Rattle.std.proofs.Common.{◌≡◌, ℕ, ◌<◌, ◌≤◌, arith, Bool, true, ◌&&◌, List, [], ◌∷◌, ◌++◌, length, take, drop, All, refl, sym, ap, subst, ◌∙◌, inl, inr}
 use Rattle.std.proofs.lemmas.List.{take-append-drop, length-take-le}
 use Rattle.std.proofs.lemmas.List.Elements.{All-head, All-tail}
+use Rattle.std.proofs.lemmas.Option.{none-some, same_Some}
+use Rattle.std.proofs.lemmas.Bool.{true≢false}
 use Rattle.etp_theory.specs.LawNumbers.{IsLaw}
 use Rattle.etp_io.specs.Texts.{LineText, whole, too_long}
 use Rattle.etp_reading.specs.Grammars.{Grammar, OneLine}
 use Rattle.etp_reading.specs.Reading.{Reads, AreWhole, line_limit, AreListed, IsFirstUnlisted, HasNoPlace, IsBadLine, IsTooMany, IsUnfinished, AreRead, Refuses}
 use Rattle.etp_reading.specs.declared.refusal.BodyRefusal.{BodyRefusal}
 use Rattle.etp_reading.specs.declared.refusal.BodyRefusal.TheVariants.{BadLine, UnknownLaw, TooManyLines, Unfinished}
-
-some_same : {A : Type 0} (a b : A) → Some a ≡ Some b → a ≡ b
-some_same a b e = cc
 
 -- two ways to cut a list: the longer front has the shorter one and what stands behind it
 cut_within : {A : Type 0} (a b c d : List A) (x : A) → a ++ x ∷ c ≡ b ++ d → length a < length b → (w : List A) × (b ≡ a ++ x ∷ w)
@@ -34,9 +33,6 @@ cut_same (u ∷ a) (z ∷ b) c d x y e h =
     let on = cut_same a b c d x y rest (omega (arith, h)) in
     (ap (λ v. v ∷ a) f ∙ ap (λ v. z ∷ v) on.0, on.1)
 
-some_none : {A : Type 0} (a : A) → Some a ≡ None → ⊥
-some_none a e = cc
-
 least : (j k : ℕ) → (j < k → ⊥) → (k < j → ⊥) → j ≡ k
 least j k a b = omega arith
 
@@ -53,9 +49,6 @@ later_number count a b c d m n e listed unlisted h =
 whole_same : (a b : List ℕ) → whole a ≡ whole b → a ≡ b
 whole_same a b e = cc
 
-true_false : true ≡ false → ⊥
-true_false e = cc
-
 module _ (g : Grammar) (one : OneLine g) where
   -- what lines say, and where they lead, is one
   pub one_reading : (p : g.Place) (xs : List LineText) (s t : List g.Line) (q r : g.Place) → Reads g p xs s q → Reads g p xs t r → (s ≡ t) × (q ≡ r)
@@ -66,7 +59,7 @@ module _ (g : Grammar) (one : OneLine g) where
   one_reading p (whole line ∷ xs) s t q r (inr (said, next, more, says, a, h, e)) (inl k) = absurd (one.blank_line line said k.0 says)
   one_reading p (whole line ∷ xs) s t q r (inr (said, next, more, says, a, h, e)) (inr (other, then, rest, also, b, k, f)) =
       let same : said ≡ other = one.one_line line said other says also in
-      let there : next ≡ then = some_same next then (sym a ∙ ap (g.after p) same ∙ b) in
+      let there : next ≡ then = same_Some next then (sym a ∙ ap (g.after p) same ∙ b) in
       let on = one_reading then xs more rest q r (subst (λ (z : g.Place). Reads g z xs more q) there h) k in
       (e ∙ ap (λ z. z ∷ more) same ∙ ap (λ z. other ∷ z) on.0 ∙ sym f, on.1)
 
@@ -99,7 +92,7 @@ module _ (g : Grammar) (one : OneLine g) where
   not_read : (p q : g.Place) (line : LineText) (xs : List LineText) (saids : List g.Line) → HasNoPlace g p line → Reads g p (line ∷ xs) saids q → ⊥
   not_read p q too_long xs saids bad h = h
   not_read p q (whole line) xs saids bad (inl h) = bad.0 h.0
-  not_read p q (whole line) xs saids bad (inr (said, next, more, says, a, h, e)) = some_none next (sym a ∙ bad.1 said says)
+  not_read p q (whole line) xs saids bad (inr (said, next, more, says, a, h, e)) = none-some next (sym (sym a ∙ bad.1 said says))
 
   -- lines with a bad one among them aren't read
   bad_among : (before xs : List LineText) (line : LineText) (s t : List g.Line) (come q : g.Place) → Reads g g.opening before s come → HasNoPlace g come line → Reads g g.opening (before ++ line ∷ xs) t q → ⊥
@@ -171,7 +164,7 @@ module _ (g : Grammar) (one : OneLine g) where
   open_whole : (lines : List LineText) (saids : List g.Line) (closed : Bool) (k : ℕ) → AreWhole g lines saids → closed ≡ true → IsUnfinished g lines closed k → ⊥
   open_whole lines saids closed k h c u =
       let same = one_reading g.opening lines u.saids saids u.come h.come u.reads h.reads in
-      true_false (sym (ap (λ z. z && g.is_complete u.come) c ∙ ap g.is_complete same.1 ∙ h.complete) ∙ u.open_end)
+      true≢false (sym (ap (λ z. z && g.is_complete u.come) c ∙ ap g.is_complete same.1 ∙ h.complete) ∙ u.open_end)
 
   -- lines that are listed have no first number that isn't
   pub none_unlisted : (count : ℕ) (lines : List LineText) (saids : List g.Line) (come : g.Place) (k n : ℕ) → Reads g g.opening lines saids come → AreListed g count saids → IsFirstUnlisted g count lines k n → ⊥

@@ -1,7 +1,8 @@
 -- A tally with one line more, and at its end.
-use Rattle.std.proofs.Common.{◌≡◌, ℕ, ◌+◌, ◌<◌, ◌≤◌, min, arith, Bool, true, false, ◌&&◌, List, [], ◌∷◌, ◌++◌, length, take, All, MatchOption, refl, sym, ap, subst, Option, Some, None, length-append}
+use Rattle.std.proofs.Common.{◌≡◌, ℕ, ◌+◌, ◌<◌, ◌≤◌, min, arith, Bool, List, [], ◌∷◌, ◌++◌, length, take, All, MatchOption, refl, sym, ap, subst, Option, Some, None, length-append}
 use Rattle.std.proofs.lemmas.List.{take_all}
 use Rattle.std.proofs.lemmas.List.Elements.{All-nil}
+use Rattle.std.proofs.lemmas.Bool.{and_parts}
 use Rattle.etp_theory.specs.LawNumbers.{IsLaw}
 use Rattle.etp_io.specs.Texts.{LineText, whole}
 use Rattle.etp_words.specs.Words.{IsBlankLine}
@@ -15,11 +16,6 @@ use Rattle.etp_reading.proofs.ReadingLemmas.{next_reads, blank_reads, next_knows
 
 counted_next : (xs : List LineText) (x : LineText) (n : ℕ) → n ≡ min (length xs) (line_limit + 1) → lines_then n ≡ min (length (xs ++ x ∷ [])) (line_limit + 1)
 counted_next xs x n e = omega (arith, length-append xs (x ∷ []))
-
-both_true : (a b : Bool) → (a && b) ≡ true → (a ≡ true) × (b ≡ true)
-both_true true true h = (refl, refl)
-both_true true false h = (refl, h)
-both_true false b h = absurd (cc)
 
 module _ (g : Grammar) (one : OneLine g) where
   pub begun : (t : Tally) → t.lines ≡ 0 → t.bad ≡ None → t.unlisted ≡ None → HasTallied g t [] g.opening []
@@ -135,7 +131,7 @@ module _ (g : Grammar) (one : OneLine g) where
       let long : length xs ≡ t.lines = few_lines t s p xs h few in
       let good = good_lines t s p xs h j.0.0 in
       let short : length xs ≤ line_limit = omega arith in
-      let both = both_true closed (g.is_complete p) j.1 in
+      let both = and_parts closed (g.is_complete p) j.1 in
       record {
         is_closed = both.0;
         few = short;
@@ -149,7 +145,7 @@ module _ (g : Grammar) (one : OneLine g) where
       let long : length xs ≡ t.lines = few_lines t s p xs h few in
       let good = good_lines t s p xs h j.0.0 in
       let short : length xs ≤ line_limit = omega arith in
-      let both = both_true closed (g.is_complete p) j.1 in
+      let both = and_parts closed (g.is_complete p) j.1 in
       record {
         is_closed = both.0;
         few = short;

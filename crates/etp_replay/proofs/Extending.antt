@@ -1,5 +1,6 @@
 -- A step by two matches, one after the other.
 use Rattle.std.proofs.Common.{◌≡◌, ℕ, List, [], Option, Some, None, IsSome, refl, sym, ap, ◌∙◌, subst}
+use Rattle.std.proofs.lemmas.Option.{same_Some}
 use Rattle.etp_theory.specs.Trees.{Tree, Equation}
 use Rattle.etp_theory.specs.Substitutions.{Partial, total}
 use Rattle.etp_theory.specs.Positions.{Side, sub_at}
@@ -19,15 +20,12 @@ right_step f p s t u v e m l h k o x y = record {
   outside = o;
 }
 
-some_is : {a b : Tree} → Some a ≡ Some b → a ≡ b
-some_is h = cc
-
 -- no substitution matches the left side and then the right side
 pub no_match : (f : Equation) (p : List Side) (s t u v : Tree) (bound : List Binding) (m : Partial) → sub_at p s ≡ Some u → sub_at p t ≡ Some v → AgreeOutside p s t → bound ≡ [] → IsExtendedTo f.left u (partial_of bound) m → NoneMatches f.right v m → IsInBoth p s t × AgreeOutside p s t × NoneTakes f p s t
 no_match f p s t u v bound m h k o n x y = (
   (subst (λ (z : Option Tree). IsSome z) (sym h) refl, subst (λ (z : Option Tree). IsSome z) (sym k) refl),
   o,
-  λ w i j. y w (extends_on f.left u (partial_of bound) m x w (all_extend w) (some_is (sym i ∙ h))) (some_is (sym j ∙ k)),
+  λ w i j. y w (extends_on f.left u (partial_of bound) m x w (all_extend w) (same_Some _ _ (sym i ∙ h))) (same_Some _ _ (sym j ∙ k)),
 )
   where
     all_extend : (w : ℕ → Tree) → Extends (partial_of bound) w

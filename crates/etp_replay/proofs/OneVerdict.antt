@@ -1,5 +1,6 @@
 -- A proof has one first offence, and a valid proof none.
 use Rattle.std.proofs.Common.{◌≡◌, ◌⊎◌, inl, inr, ℕ, zero, suc, ◌+◌, ◌<◌, List, [], ◌∷◌, ◌++◌, take, Some, slice_get, refl, sym, ap, ◌∙◌, subst, arith, append_assoc, append-nil}
+use Rattle.std.proofs.lemmas.Bool.{cases_order}
 use Rattle.etp_theory.specs.Trees.{Tree, Equation}
 use Rattle.etp_theory.specs.Sameness.{Same}
 use Rattle.etp_theory.specs.Proofs.{ProofStep, Lemma, last_term, conclusion, conclusions, IsRightStep, AreRightSteps, AreRightLemmas, IsValidProof}
@@ -14,10 +15,6 @@ use Rattle.etp_replay.specs.Validity.{IsOtherLaw, IsOtherGoal, IsFirstOffence}
 use Rattle.etp_replay.specs.declared.refusal.ReplayRefusal.{ReplayRefusal}
 use Rattle.etp_replay.specs.declared.refusal.ReplayRefusal.TheVariants.{Reference, NoPlace, OutsideChanged, NoMatch, GoalDiffers, Citation, NoMemory}
 use Rattle.etp_replay.proofs.OneStep.{some_is, one_step_refused, step_not_right}
-
--- two places are the same, or one comes first
-in_order : (i j : ℕ) → (i < j) ⊎ ((i ≡ j) ⊎ (j < i))
-in_order i j = grind arith
 
 module _ (h : Equation) (cites : List Equation) where
   first_steps : (earlier : List Equation) (t : Tree) (xs : List ProofStep) (n : ℕ) → AreRightSteps h cites earlier t xs → AreRightSteps h cites earlier t (take n xs)
@@ -58,12 +55,12 @@ module _ (h : Equation) (cites : List Equation) where
     lemma_not_right r w f = not_before r w (suc w.place) (omega arith) (first_steps earlier l.start l.steps (suc w.place) f)
 
     one_lemma_refused : (r s : ReplayRefusal) → IsLemmaRefused h cites earlier l a r → IsLemmaRefused h cites earlier l a s → r ≡ s
-    one_lemma_refused r s w v = go (in_order w.place v.place)
+    one_lemma_refused r s w v = go (cases_order w.place v.place)
       where
-        go : (w.place < v.place) ⊎ ((w.place ≡ v.place) ⊎ (v.place < w.place)) → r ≡ s
-        go (inl k) = not_before r w v.place k v.before
+        go : (w.place ≡ v.place) ⊎ ((w.place < v.place) ⊎ (v.place < w.place)) → r ≡ s
+        go (inr (inl k)) = not_before r w v.place k v.before
         go (inr (inr k)) = not_before s v w.place k w.before
-        go (inr (inl k)) =
+        go (inl k) =
             let step : v.step ≡ w.step = some_is (slice_get l.steps v.place) v.step w.step v.stands (ap (slice_get l.steps) (sym k) ∙ w.stands) in
             let here = subst (λ (n : ℕ). IsStepRefused h cites earlier (last_term l.start (take n l.steps)) v.step a (n + 1) s) (sym k) v.refused in
             let same = subst (λ (x : ProofStep). IsStepRefused h cites earlier (last_term l.start (take w.place l.steps)) x a (w.place + 1) s) step here in
@@ -78,12 +75,12 @@ module _ (h : Equation) (cites : List Equation) where
     right_or_wrong r w f = wrong_before r w (suc w.place) (omega arith) (first_lemmas [] ls (suc w.place) f)
 
     pub one_wrong : (r s : ReplayRefusal) → IsFirstWrong h cites ls r → IsFirstWrong h cites ls s → r ≡ s
-    one_wrong r s w v = go (in_order w.place v.place)
+    one_wrong r s w v = go (cases_order w.place v.place)
       where
-        go : (w.place < v.place) ⊎ ((w.place ≡ v.place) ⊎ (v.place < w.place)) → r ≡ s
-        go (inl k) = wrong_before r w v.place k v.before
+        go : (w.place ≡ v.place) ⊎ ((w.place < v.place) ⊎ (v.place < w.place)) → r ≡ s
+        go (inr (inl k)) = wrong_before r w v.place k v.before
         go (inr (inr k)) = wrong_before s v w.place k w.before
-        go (inr (inl k)) =
+        go (inl k) =
             let lemma : v.lemma ≡ w.lemma = some_is (slice_get ls v.place) v.lemma w.lemma v.stands (ap (slice_get ls) (sym k) ∙ w.stands) in
             let here = subst (λ (n : ℕ). IsLemmaRefused h cites (conclusions (take n ls)) v.lemma (n + 1) s) (sym k) v.refused in
             let same = subst (λ (x : Lemma). IsLemmaRefused h cites (conclusions (take w.place ls)) x (w.place + 1) s) lemma here in

@@ -49,4 +49,5 @@ IsFirstOffence l hypothesis goal cites lemmas r =
 abbrev pub IsRefused : LawList → Proof → List ℕ → ReplayRefusal → Type 0
 IsRefused l proof cited r =
     (r ≡ NoMemory)
-    ⊎ IsFirstOffence l (law_at l.equations proof.hypothesis) (law_at l.equations proof.goal) (map (law_at l.equations) cited) (map lemma_of proof.lemmas) r
+    ⊎ IsFirstOffence l (law_at l.equations proof.hypothesis) (law_at l.equations proof.goal)
+    (map (law_at l.equations) cited) (map lemma_of proof.lemmas) r

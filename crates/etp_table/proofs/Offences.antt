@@ -1,9 +1,8 @@
 -- Laws are judged right or there is a first offence, and it is the only one.
-use Rattle.std.proofs.Common.{◌≡◌, ℕ, ◌<◌, ◌≤◌, ◌⊎◌, inl, inr, All, List, Some, length, take, slice_get, sym, ◌∙◌, ap, subst, arith}
+use Rattle.std.proofs.Common.{◌≡◌, ℕ, ◌<◌, ◌≤◌, ◌⊎◌, inl, inr, All, List, Some, slice_get, sym, ◌∙◌, ap, subst, arith}
 use Rattle.std.proofs.lemmas.Bool.{cases_order}
-use Rattle.std.proofs.lemmas.List.{get_or-take, length-take}
-use Rattle.std.proofs.lemmas.List.Elements.{All-get_or}
-use Rattle.std.proofs.lemmas.Option.{slice_get_within, get_or_from_slice_get, same_Some}
+use Rattle.std.proofs.lemmas.Option.{same_Some}
+use Rattle.etp_laws.proofs.NumberLists.{at_place, before_place}
 use Rattle.etp_theory.specs.Trees.{Equation}
 use Rattle.etp_theory.specs.LawNumbers.{law_numbered}
 use Rattle.etp_table.specs.Tables.{Table}
@@ -13,17 +12,6 @@ use Rattle.etp_table.specs.Judgements.{LawHolds, LawFails, IsJudged, IsHoldsRefu
 use Rattle.etp_table.specs.declared.refusal.TableRefusal.{TableRefusal}
 use Rattle.etp_table.specs.declared.refusal.TableRefusal.TheVariants.{TooManyAssignments, HoldsFails, FailsHolds, Entry, NoMemory}
 use Rattle.etp_table.proofs.Failures.{agree_not, agrees_or_fails, one_failure}
-
--- what holds of all numbers holds of the one at a place
-at_place : (P : ℕ → Type 0) (xs : List ℕ) (place n : ℕ) → slice_get xs place ≡ Some n → All P xs → P n
-at_place P xs place n h all =
-    subst P (get_or_from_slice_get xs place n n h) (All-get_or P xs place n (slice_get_within xs place n h) all)
-
--- and what holds of the numbers up to a place holds of one before it
-before_place : (P : ℕ → Type 0) (xs : List ℕ) (i j n : ℕ) → i < j → slice_get xs i ≡ Some n → All P (take j xs) → P n
-before_place P xs i j n l h all =
-    let within : i < length (take j xs) = omega (arith, length-take j xs, slice_get_within xs i n h) in
-    subst P (get_or-take j xs i n l ∙ get_or_from_slice_get xs i n n h) (All-get_or P (take j xs) i n within all)
 
 held : (laws : List Equation) (t : Table) (n : ℕ) (e : Equation) (r : TableRefusal) → law_numbered laws n ≡ Some e → LawHolds laws t n → IsHoldsRefused t n e r → ⊥
 held laws t n e (TooManyAssignments law size k) s h q =

@@ -18,7 +18,8 @@ entry_below : (n : ℕ) (xs : List ℕ) (i : ℕ) → list_all (λ x. nat_lt x n
 entry_below n xs i all h = elim (cases_lt (get_or xs i 0) n) [
   | inl l ↦ l
   | inr l ↦
-      let none : list_all (λ x. nat_lt x n) xs ≡ false = list_all_at (λ x. nat_lt x n) xs i 0 h (le-ltb (get_or xs i 0) n l) in
+      let none : list_all (λ x. nat_lt x n) xs ≡ false =
+      list_all_at (λ x. nat_lt x n) xs i 0 h (le-ltb (get_or xs i 0) n l) in
       absurd (cc)
 ]
 
@@ -32,8 +33,11 @@ carrier_closed t x y h k =
     let square : is_square t ≡ true = and_first (is_square t) (nat_lt x t.size) h in
     let row : x < t.size = ltb-true x t.size (and_second (is_square t) (nat_lt x t.size) h) in
     let column : y < t.size = ltb-true y t.size (and_second (is_square t) (nat_lt y t.size) k) in
-    let long : length t.entries ≡ t.size * t.size = eqb-true (length t.entries) (t.size * t.size) (and_first (nat_eq (length t.entries) (t.size * t.size)) (list_all (λ z. nat_lt z t.size) t.entries) square) in
-    let all = and_second (nat_eq (length t.entries) (t.size * t.size)) (list_all (λ z. nat_lt z t.size) t.entries) square in
+    let long : length t.entries ≡ t.size * t.size =
+    eqb-true (length t.entries) (t.size * t.size) (and_first (nat_eq (length t.entries) (t.size * t.size))
+    (list_all (λ z. nat_lt z t.size) t.entries) square) in
+    let all = and_second (nat_eq (length t.entries) (t.size * t.size))
+    (list_all (λ z. nat_lt z t.size) t.entries) square in
     let there = in_range x y t.size row column in
     let small = entry_below t.size t.entries (x * t.size + y) all (omega (arith, there, long)) in
     ap₂ (λ a b. a && b) square (lt-ltb (get_or t.entries (x * t.size + y) 0) t.size small)

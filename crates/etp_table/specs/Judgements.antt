@@ -45,7 +45,8 @@ IsFailsRefused t n e (FailsHolds law looked_at) =
 IsFailsRefused t n e _ = ⊥
 
 -- the first of the numbers whose law isn't as it is to be; `Refused` is said of its number and law
-pub record IsFirstRefused (laws : List Equation) (IsRight : ℕ → Type 0) (Refused : ℕ → Equation → Type 0) (numbers : List ℕ) : Type 0 where
+pub record IsFirstRefused (laws : List Equation) (IsRight : ℕ → Type 0)
+    (Refused : ℕ → Equation → Type 0) (numbers : List ℕ) : Type 0 where
   pub place : ℕ
   pub number : ℕ
   pub law : Equation

@@ -35,7 +35,9 @@ impl OpTable {
     fn judge_holding(&self, laws: &Laws, holds: &[u32]) -> Result<(), TableRefusal>
         requires { All (λ n. IsSome (law_numbered laws.now.equations n)) holds.now }
         ensures ok { OnOk result (All (LawHolds laws.now.equations self.now) holds.now) }
-        ensures err { IfErr result (λ r. IsFirstRefused laws.now.equations (LawHolds laws.now.equations self.now) (λ n e. IsHoldsRefused self.now n e r) holds.now) }
+        ensures err { IfErr result (λ r. IsFirstRefused laws.now.equations
+            (LawHolds laws.now.equations self.now) (λ n e. IsHoldsRefused self.now n e r)
+            holds.now) }
     {
         for number in holds {
             self.judge_held(laws, *number)?;
@@ -47,7 +49,9 @@ impl OpTable {
     fn judge_failing(&self, laws: &Laws, fails: &[u32]) -> Result<(), TableRefusal>
         requires { All (λ n. IsSome (law_numbered laws.now.equations n)) fails.now }
         ensures ok { OnOk result (All (LawFails laws.now.equations self.now) fails.now) }
-        ensures err { IfErr result (λ r. IsFirstRefused laws.now.equations (LawFails laws.now.equations self.now) (λ n e. IsFailsRefused self.now n e r) fails.now) }
+        ensures err { IfErr result (λ r. IsFirstRefused laws.now.equations
+            (LawFails laws.now.equations self.now) (λ n e. IsFailsRefused self.now n e r)
+            fails.now) }
     {
         for number in fails {
             self.judge_failed(laws, *number)?;
@@ -59,7 +63,9 @@ impl OpTable {
     fn judge_held(&self, laws: &Laws, number: u32) -> Result<(), TableRefusal>
         requires { IsSome (law_numbered laws.now.equations number) }
         ensures ok { OnOk result (LawHolds laws.now.equations self.now number) }
-        ensures err { IfErr result (λ r. (e : Equation) × (law_numbered laws.now.equations number ≡ Some e) × IsHoldsRefused self.now number e r) }
+        ensures err { IfErr result (λ r. (e : Equation)
+            × (law_numbered laws.now.equations number ≡ Some e)
+            × IsHoldsRefused self.now number e r) }
     {
         let law = listed(laws, number);
         let variables = variables_of(law);
@@ -85,7 +91,9 @@ impl OpTable {
     fn judge_failed(&self, laws: &Laws, number: u32) -> Result<(), TableRefusal>
         requires { IsSome (law_numbered laws.now.equations number) }
         ensures ok { OnOk result (LawFails laws.now.equations self.now number) }
-        ensures err { IfErr result (λ r. (e : Equation) × (law_numbered laws.now.equations number ≡ Some e) × IsFailsRefused self.now number e r) }
+        ensures err { IfErr result (λ r. (e : Equation)
+            × (law_numbered laws.now.equations number ≡ Some e)
+            × IsFailsRefused self.now number e r) }
     {
         match self.first_failure(listed(laws, number)) {
             Verdict::Holds { looked_at } => Err(TableRefusal::FailsHolds {

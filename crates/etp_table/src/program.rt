@@ -33,7 +33,8 @@ impl Program {
         ensures last { self.new.last ≡ self.old.last }
         ensures kept { Extends self.old.kept self.new.kept }
         ensures looped { Extends self.old.looped self.new.looped }
-        ensures count { length self.new.kept + length self.new.looped ≡ length self.old.kept + length self.old.looped + ops (tree_of term.now) }
+        ensures count { length self.new.kept + length self.new.looped
+            ≡ length self.old.kept + length self.old.looped + ops (tree_of term.now) }
         ensures order { IsInOrder self.new.kept self.new.looped }
         ensures value { HasValue self.new.last self.new.kept self.new.looped result (tree_of term.now) }
     {

@@ -6,7 +6,8 @@ use Rattle.std.specs.declared.cmp.Ordering.{Ordering}
 use Rattle.std.specs.declared.cmp.Ordering.TheVariants.{Less, Equal, Greater}
 use Rattle.etp_theory.specs.Trees.{Tree, var, op, fork, Equation, shape_of, shape_leaves, word_of, law_word, law_ops}
 use Rattle.etp_theory.specs.Orders.{shape_cmp, law_cmp}
-use Rattle.etp_term.proofs.Shapes.{then_assoc, shape_cmp-equal}
+use Rattle.etp_theory.proofs.Comparing.{then_assoc}
+use Rattle.etp_theory.proofs.Orders.{shape_equal}
 
 pub length-word_of : (t : Tree) → length (word_of t) ≡ shape_leaves (shape_of t)
 length-word_of (var v) = refl
@@ -34,12 +35,12 @@ law_cmp-parts p q left right l r = ap (ordering_then (nat_cmp (law_ops p) (law_o
     on_right Less e s = refl
     on_right Greater e s = refl
     on_right Equal e s =
-        (λ i. ordering_then (l s i) (r (shape_cmp-equal (shape_of p.right) (shape_of q.right) e) i)) ∙ sym (slice_cmp-words p.left q.left p.right q.right s)
+        (λ i. ordering_then (l s i) (r (shape_equal (shape_of p.right) (shape_of q.right) e) i)) ∙ sym (slice_cmp-words p.left q.left p.right q.right s)
 
     on_left : (o : Ordering) → shape_cmp (shape_of p.left) (shape_of q.left) ≡ o → ordering_then o (ordering_then (shape_cmp (shape_of p.right) (shape_of q.right)) (ordering_then left right)) ≡ ordering_then o (ordering_then (shape_cmp (shape_of p.right) (shape_of q.right)) (slice_cmp nat_cmp (law_word p) (law_word q)))
     on_left Less e = refl
     on_left Greater e = refl
-    on_left Equal e = on_right (shape_cmp (shape_of p.right) (shape_of q.right)) refl (shape_cmp-equal (shape_of p.left) (shape_of q.left) e)
+    on_left Equal e = on_right (shape_cmp (shape_of p.right) (shape_of q.right)) refl (shape_equal (shape_of p.left) (shape_of q.left) e)
 
 -- the order of the words of two operations, from those of their parts
 pub slice_cmp-op : (s t a b c d : Tree) (left right order : Ordering) → s ≡ op a b → t ≡ op c d

@@ -98,7 +98,9 @@ impl Term {
 
     /// The order of the words of two terms of one shape: variable by variable, from left to right.
     pub(crate) fn word_cmp(&self, other: &Term) -> Ordering
-        ensures { shape_of (tree_of self.now) ≡ shape_of (tree_of other.now) → result ≡ slice_cmp nat_cmp (word_of (tree_of self.now)) (word_of (tree_of other.now)) }
+        ensures { shape_of (tree_of self.now) ≡ shape_of (tree_of other.now)
+            → result ≡ slice_cmp nat_cmp (word_of (tree_of self.now))
+            (word_of (tree_of other.now)) }
     {
         match (self, other) {
             (Term::Var(v), Term::Var(w)) => v.cmp(w),
@@ -153,13 +155,15 @@ impl Term {
 
     /// The subterm at a position; None where the position isn't in the term.
     pub fn at(&self, position: &Position) -> Option<&Term>
-        ensures { MatchOption result (sub_at (position_of position.now) (tree_of self.now) ≡ None) (λ t. sub_at (position_of position.now) (tree_of self.now) ≡ Some (tree_of t.now)) }
+        ensures { MatchOption result (sub_at (position_of position.now) (tree_of self.now) ≡ None)
+            (λ t. sub_at (position_of position.now) (tree_of self.now) ≡ Some (tree_of t.now)) }
     {
         self.below(position.as_slice())
     }
 
     fn below(&self, sides: &[Side]) -> Option<&Term>
-        ensures { MatchOption result (sub_at (position_of sides.now) (tree_of self.now) ≡ None) (λ t. sub_at (position_of sides.now) (tree_of self.now) ≡ Some (tree_of t.now)) }
+        ensures { MatchOption result (sub_at (position_of sides.now) (tree_of self.now) ≡ None)
+            (λ t. sub_at (position_of sides.now) (tree_of self.now) ≡ Some (tree_of t.now)) }
     {
         match sides.split_first() {
             None => Some(self),

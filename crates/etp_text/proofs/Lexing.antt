@@ -2,17 +2,17 @@
 use Rattle.std.proofs.Common.{◌≡◌, ◌≢◌, ℕ, ◌+◌, ◌-◌, ◌<◌, ◌≤◌, Bool, true, false, cond, ◌&&◌, eqb, ◌⊎◌, inl, inr, Option, Some, None, List, [], ◌∷◌, ◌++◌, length, take, codes, refl, sym, ap, ap₂, ◌∙◌, subst, arith, length-append, eqb-true, ne_eqb}
 use Rattle.std.specs.Char.{is_ascii_alphabetic, is_ascii_alphanumeric}
 use Rattle.std.specs.List.{AllByRecursion}
-use Rattle.std.proofs.lemmas.Bool.{cond-true, cond-false}
+use Rattle.std.proofs.lemmas.Bool.{cases_Bool, and_parts, cond-true, cond-false}
 use Rattle.std.proofs.lemmas.Bool.Decides.{nat_tests}
 use Rattle.std.proofs.lemmas.List.{take-append-le, take_all}
-use Rattle.std.proofs.lemmas.Option.{some_pair_parts}
+use Rattle.std.proofs.lemmas.Option.{some_pair_parts, none-some}
 use Rattle.etp_words.specs.Words.{is_blank, skip_blanks}
 use Rattle.etp_text.specs.Written.{variable_name}
 use Rattle.etp_text.specs.Grammar.{AreBlanks, IsIdentifier, IsToken, IsIdentifierOver, MayEnd, StartsWith, Begins}
 use Rattle.etp_text.specs.Machine.{name_at, behind_name, named, sign_at, token_at}
 use Rattle.etp_text.specs.declared.token.Token.{Token}
 use Rattle.etp_text.specs.declared.token.Token.TheVariants.{Opening, Closing, Equals, Operator, Variable, Unknown}
-use Rattle.etp_text.proofs.Names.{split, both, name_named, variable_named, variable_is_name, name_token}
+use Rattle.etp_text.proofs.Names.{name_named, variable_named, variable_is_name, name_token}
 
 abbrev pub IsAlnum : ℕ → Type 0
 IsAlnum byte = is_ascii_alphanumeric byte ≡ true
@@ -132,9 +132,9 @@ named_found b bs h = record {
 sign_found : (bs : List ℕ) (token : Token) (rest : List ℕ) → sign_at bs ≡ Some (token, rest) → StartsWith (226 ∷ bs) token rest
 sign_found [] token rest h = absurd (cc)
 sign_found (a ∷ []) token rest h = absurd (cc)
-sign_found (a ∷ b ∷ bs) token rest h = elim (split (eqb a 151 && eqb b 135)) [
+sign_found (a ∷ b ∷ bs) token rest h = elim (cases_Bool (eqb a 151 && eqb b 135)) [
   | inl k ↦
-      let p = both (eqb a 151) (eqb b 135) k in
+      let p = and_parts (eqb a 151) (eqb b 135) k in
       moved (226 ∷ a ∷ b ∷ bs) Operator token bs rest (sym (cond-true _ _ _ k) ∙ h)
       (record { word = 226 ∷ 151 ∷ 135 ∷ []; is_token = inr refl; ends = tt; whole = ap₂ (λ x y. 226 ∷ x ∷ y ∷ bs) (eqb-true a 151 p.0) (eqb-true b 135 p.1) })
   | inr k ↦ nothing token rest (sym (cond-false _ _ _ k) ∙ h)
@@ -148,24 +148,24 @@ token_found [] token rest h = absurd (cc)
 token_found (b ∷ bs) token rest h =
     let one : (k : ℕ) (t : Token) → eqb b k ≡ true → IsToken (k ∷ []) t → MayEnd t bs → StartsWith (b ∷ bs) t bs =
     λ k t e i m. record { word = k ∷ []; is_token = i; ends = m; whole = ap (λ x. x ∷ bs) (eqb-true b k e) } in
-    elim (split (eqb b 40)) [
+    elim (cases_Bool (eqb b 40)) [
       | inl k ↦ moved (b ∷ bs) Opening token bs rest (sym (cond-true _ _ _ k) ∙ h) (one 40 Opening k refl tt)
       | inr k0 ↦
-          elim (split (eqb b 41)) [
+          elim (cases_Bool (eqb b 41)) [
             | inl k ↦ moved (b ∷ bs) Closing token bs rest (sym (cond-false _ _ _ k0 ∙ cond-true _ _ _ k) ∙ h) (one 41 Closing k refl tt)
             | inr k1 ↦
-                elim (split (eqb b 61)) [
+                elim (cases_Bool (eqb b 61)) [
                   | inl k ↦ moved (b ∷ bs) Equals token bs rest (sym (cond-false _ _ _ k0 ∙ (cond-false _ _ _ k1 ∙ cond-true _ _ _ k)) ∙ h) (one 61 Equals k refl tt)
                   | inr k2 ↦
-                      elim (split (eqb b 42)) [
+                      elim (cases_Bool (eqb b 42)) [
                         | inl k ↦ moved (b ∷ bs) Operator token bs rest (sym (cond-false _ _ _ k0 ∙ (cond-false _ _ _ k1 ∙ (cond-false _ _ _ k2 ∙ cond-true _ _ _ k))) ∙ h) (one 42 Operator k (inl refl) tt)
                         | inr k3 ↦
-                            elim (split (eqb b 226)) [
+                            elim (cases_Bool (eqb b 226)) [
                               | inl k ↦
                                   subst (λ x. StartsWith (x ∷ bs) token rest) (sym (eqb-true b 226 k))
                                   (sign_found bs token rest (sym (cond-false _ _ _ k0 ∙ (cond-false _ _ _ k1 ∙ (cond-false _ _ _ k2 ∙ (cond-false _ _ _ k3 ∙ cond-true _ _ _ k)))) ∙ h))
                               | inr k4 ↦
-                                  elim (split (is_ascii_alphabetic b)) [
+                                  elim (cases_Bool (is_ascii_alphabetic b)) [
                                     | inl k ↦ moved (b ∷ bs) (named (b ∷ name_at bs)) token (behind_name bs) rest (sym (name_read b bs k) ∙ h) (named_found b bs k)
                                     | inr k ↦ nothing token rest (sym (cond-false _ _ _ k0 ∙ (cond-false _ _ _ k1 ∙ (cond-false _ _ _ k2 ∙ (cond-false _ _ _ k3 ∙ (cond-false _ _ _ k4 ∙ cond-false _ _ _ k))))) ∙ h)
                                   ]
@@ -179,15 +179,12 @@ token_found (b ∷ bs) token rest h =
     nothing t r e = absurd (cc)
 
 -- no token begins where none is read
-none_some : {X : Type 0} (t : Token) (r : List ℕ) → ◌≡◌ {A = Option (Token × List ℕ)} None (Some (t, r)) → X
-none_some t r e = absurd (cc)
-
 pub no_token : (bytes : List ℕ) → token_at bytes ≡ None → (token : Token) (rest : List ℕ) → StartsWith bytes token rest → ⊥
-no_token bytes h token rest s = none_some token rest (sym h ∙ token_read bytes token rest s)
+no_token bytes h token rest s = absurd (none-some (token, rest) (sym h ∙ token_read bytes token rest s))
 
 -- blanks
 blank_no_token : (b : ℕ) (bs : List ℕ) → is_blank b ≡ true → token_at (b ∷ bs) ≡ None
-blank_no_token b bs h = elim (split (eqb b 32)) [
+blank_no_token b bs h = elim (cases_Bool (eqb b 32)) [
   | inl k ↦ ap (λ x. token_at (x ∷ bs)) (eqb-true b 32 k)
   | inr k ↦ ap (λ x. token_at (x ∷ bs)) (tab b h k)
 ]
@@ -197,8 +194,8 @@ blank_no_token b bs h = elim (split (eqb b 32)) [
 
 pub start_kept : (start : List ℕ) (token : Token) (rest : List ℕ) → token_at start ≡ Some (token, rest) → skip_blanks start ≡ start
 start_kept [] token rest h = refl
-start_kept (b ∷ bs) token rest h = elim (split (is_blank b)) [
-  | inl k ↦ none_some token rest (sym (blank_no_token b bs k) ∙ h)
+start_kept (b ∷ bs) token rest h = elim (cases_Bool (is_blank b)) [
+  | inl k ↦ absurd (none-some (token, rest) (sym (blank_no_token b bs k) ∙ h))
   | inr k ↦ cond-false _ _ _ k
 ]
 
@@ -221,7 +218,7 @@ skips (b ∷ bs) = go (is_blank b) refl (skips bs)
 -- the byte after the blanks isn't one
 pub no_blank : (bytes : List ℕ) (b : ℕ) (bs : List ℕ) → skip_blanks bytes ≡ b ∷ bs → is_blank b ≡ false
 no_blank [] b bs h = absurd (cc)
-no_blank (c ∷ cs) b bs h = elim (split (is_blank c)) [
+no_blank (c ∷ cs) b bs h = elim (cases_Bool (is_blank c)) [
   | inl k ↦ no_blank cs b bs (sym (cond-true _ _ _ k) ∙ h)
   | inr k ↦ let e : c ∷ cs ≡ b ∷ bs = sym (cond-false _ _ _ k) ∙ h in same c b cs bs e k
 ]
@@ -249,7 +246,7 @@ pub front_of_all : (bytes : List ℕ) (ts us : List Token) (middle rest : List �
     → (vs : List Token) × (us ≡ ts ++ vs) × Begins middle vs rest
 front_of_all bytes [] us middle rest e h a = (us, refl, subst (λ x. Begins x us rest) e h)
 front_of_all bytes (t ∷ ts) [] middle rest g h a =
-    none_some t g.2 (sym (ap token_at (ap skip_blanks h ∙ all_skipped rest a)) ∙ first_read bytes t ts middle g)
+    absurd (none-some (t, g.2) (sym (ap token_at (ap skip_blanks h ∙ all_skipped rest a)) ∙ first_read bytes t ts middle g))
 front_of_all bytes (t ∷ ts) (u ∷ us) middle rest g h a =
     let p = some_pair_parts t u g.2 h.2 (sym (first_read bytes t ts middle g) ∙ first_read bytes u us rest h) in
     let i = front_of_all h.2 ts us middle rest (subst (λ x. Begins x ts middle) p.1 g.6) h.6 a in

@@ -3,22 +3,13 @@ use Rattle.std.proofs.Common.{◌≡◌, ℕ, zero, suc, ◌+◌, ◌-◌, ◌*�
 use Rattle.std.specs.Fmt.{decimal, digits}
 use Rattle.std.specs.Char.{is_ascii_alphabetic, is_ascii_alphanumeric}
 use Rattle.std.proofs.lemmas.Fmt.{decimal_digit, decimal_step}
-use Rattle.std.proofs.lemmas.Bool.{cond-true, cond-false}
+use Rattle.std.proofs.lemmas.Bool.{cases_Bool, and_parts, cond-true, cond-false}
 use Rattle.std.proofs.lemmas.Bool.Decides.{nat_tests}
 use Rattle.etp_text.specs.Written.{variable_name}
 use Rattle.etp_text.specs.Grammar.{IsIdentifier, IsToken}
 use Rattle.etp_text.specs.Machine.{named, small}
 use Rattle.etp_text.specs.declared.token.Token.{Token}
 use Rattle.etp_text.specs.declared.token.Token.TheVariants.{Opening, Closing, Equals, Operator, Variable, Unknown}
-
-pub split : (c : Bool) → (c ≡ true) ⊎ (c ≡ false)
-split true = inl refl
-split false = inr refl
-
-pub both : (a b : Bool) → (a && b) ≡ true → (a ≡ true) × (b ≡ true)
-both true true h = (refl, refl)
-both true false h = (refl, h)
-both false b h = absurd (cc)
 
 -- names of one to three bytes
 pub long_name : (v : ℕ) → 6 ≤ v → variable_name v ≡ 118 ∷ decimal v
@@ -42,22 +33,22 @@ letter_named : (a : ℕ) → Named (a ∷ [])
 letter_named a =
     let P : ℕ → Type 0 = λ x. Named (x ∷ []) in
     let at : (k : ℕ) → eqb a k ≡ true → P k → P a = λ k h p. subst P (sym (eqb-true a k h)) p in
-    elim (split (eqb a 120)) [
+    elim (cases_Bool (eqb a 120)) [
       | inl h ↦ at 120 h (inl (record { number = 0; token = refl; few = lit< tt; name = refl; is_name = (refl, tt) }))
       | inr h0 ↦
-          elim (split (eqb a 121)) [
+          elim (cases_Bool (eqb a 121)) [
             | inl h ↦ at 121 h (inl (record { number = 1; token = refl; few = lit< tt; name = refl; is_name = (refl, tt) }))
             | inr h1 ↦
-                elim (split (eqb a 122)) [
+                elim (cases_Bool (eqb a 122)) [
                   | inl h ↦ at 122 h (inl (record { number = 2; token = refl; few = lit< tt; name = refl; is_name = (refl, tt) }))
                   | inr h2 ↦
-                      elim (split (eqb a 119)) [
+                      elim (cases_Bool (eqb a 119)) [
                         | inl h ↦ at 119 h (inl (record { number = 3; token = refl; few = lit< tt; name = refl; is_name = (refl, tt) }))
                         | inr h3 ↦
-                            elim (split (eqb a 117)) [
+                            elim (cases_Bool (eqb a 117)) [
                               | inl h ↦ at 117 h (inl (record { number = 4; token = refl; few = lit< tt; name = refl; is_name = (refl, tt) }))
                               | inr h4 ↦
-                                  elim (split (eqb a 118)) [
+                                  elim (cases_Bool (eqb a 118)) [
                                     | inl h ↦ at 118 h (inl (record { number = 5; token = refl; few = lit< tt; name = refl; is_name = (refl, tt) }))
                                     | inr h5 ↦
                                         inr (cond-false _ _ _ h0 ∙ (cond-false _ _ _ h1 ∙ (cond-false _ _ _ h2 ∙ (cond-false _ _ _ h3 ∙ (cond-false _ _ _ h4 ∙ cond-false _ _ _ h5)))))
@@ -72,10 +63,10 @@ digit_byte : (b : ℕ) → 48 ≤ b → b ≤ 57 → is_ascii_alphanumeric b ≡
 digit_byte b l h = grind (arith, nat_tests)
 
 two_named : (a b : ℕ) → Named (a ∷ b ∷ [])
-two_named a b = elim (split (eqb a 118 && leb 54 b && leb b 57)) [
+two_named a b = elim (cases_Bool (eqb a 118 && leb 54 b && leb b 57)) [
   | inl h ↦
-      let p = both (eqb a 118 && leb 54 b) (leb b 57) h in
-      let q = both (eqb a 118) (leb 54 b) p.0 in
+      let p = and_parts (eqb a 118 && leb 54 b) (leb b 57) h in
+      let q = and_parts (eqb a 118) (leb 54 b) p.0 in
       let low = leb-true 54 b q.1 in
       let high = leb-true b 57 p.1 in
       let first = eqb-true a 118 q.0 in
@@ -99,19 +90,19 @@ value_of_two n b c e l k m small =
     long_name n (omega arith) ∙ ap (λ ds. 118 ∷ ds) (decimal_step n (omega arith) (omega arith) ∙ ap₂ (λ ds d. ds ++ (d ∷ [])) first last)
 
 three_named : (a b c : ℕ) → Named (a ∷ b ∷ c ∷ [])
-three_named a b c = elim (split (eqb a 118 && leb 49 b && leb b 54 && leb 48 c && leb c 57)) [
+three_named a b c = elim (cases_Bool (eqb a 118 && leb 49 b && leb b 54 && leb 48 c && leb c 57)) [
   | inl h ↦
-      let p = both (eqb a 118 && leb 49 b && leb b 54 && leb 48 c) (leb c 57) h in
-      let q = both (eqb a 118 && leb 49 b && leb b 54) (leb 48 c) p.0 in
-      let r = both (eqb a 118 && leb 49 b) (leb b 54) q.0 in
-      let s = both (eqb a 118) (leb 49 b) r.0 in
+      let p = and_parts (eqb a 118 && leb 49 b && leb b 54 && leb 48 c) (leb c 57) h in
+      let q = and_parts (eqb a 118 && leb 49 b && leb b 54) (leb 48 c) p.0 in
+      let r = and_parts (eqb a 118 && leb 49 b) (leb b 54) q.0 in
+      let s = and_parts (eqb a 118) (leb 49 b) r.0 in
       let first = eqb-true a 118 s.0 in
       let low = leb-true 49 b s.1 in
       let high = leb-true b 54 r.1 in
       let down = leb-true 48 c q.1 in
       let up = leb-true c 57 p.1 in
       let n : ℕ = (b - 48) * 10 + (c - 48) in
-      elim (split (ltb n 64)) [
+      elim (cases_Bool (ltb n 64)) [
         | inl k ↦
             inl (record {
               number = n;
@@ -158,8 +149,8 @@ picked : (n v : ℕ) → all_named n ≡ true → v < n → is_variable v (named
 unfolding all_named
 picked zero v h lt = absurd (omega arith)
 picked (suc n) v h lt =
-    let p = both (all_named n) (is_variable n (named (variable_name n))) h in
-    elim (split (eqb v n)) [
+    let p = and_parts (all_named n) (is_variable n (named (variable_name n))) h in
+    elim (cases_Bool (eqb v n)) [
       | inl e ↦ subst (λ x. is_variable x (named (variable_name x)) ≡ true) (sym (eqb-true v n e)) p.1
       | inr e ↦ picked n v p.0 (below v n lt e)
     ]

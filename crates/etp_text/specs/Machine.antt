@@ -1,5 +1,5 @@
 -- How the reader goes over a text: one token after another, with what has been read so far.
-use Rattle.std.specs.Prelude.{ℕ, ◌+◌, ◌-◌, ◌*◌, ◌≡◌, Bool, true, false, nat_eq, nat_le, nat_lt, ◌&&◌, Option, None, Some, List, [], ◌∷◌, map, length, Result, Ok, Err, IsSome, if◌then◌else◌}
+use Rattle.std.specs.Prelude.{ℕ, ◌+◌, ◌-◌, ◌*◌, ◌≡◌, nat_eq, nat_le, nat_lt, ◌&&◌, Option, None, Some, List, [], ◌∷◌, map, length, Result, Ok, Err, IsSome, if◌then◌else◌}
 use Rattle.std.specs.Option.{option_map, option_and_then}
 use Rattle.std.specs.Char.{is_ascii_alphabetic, is_ascii_alphanumeric}
 use Rattle.etp_theory.specs.Trees.{Tree, var, op}
@@ -8,6 +8,8 @@ use Rattle.etp_text.specs.Grammar.{AreBlanks, Begins}
 use Rattle.etp_text.specs.Refusals.{IsTermText, IsLawText, IsSyntaxAt, IsVariableAt}
 use Rattle.etp_text.specs.declared.token.Token.{Token}
 use Rattle.etp_text.specs.declared.token.Token.TheVariants.{Opening, Closing, Equals, Operator, Variable, Unknown}
+use Rattle.etp_text.specs.declared.reading.Grammar.{Grammar}
+use Rattle.etp_text.specs.declared.reading.Grammar.TheVariants.{Terms, Laws}
 use Rattle.etp_text.specs.declared.reading.Part.{Part}
 use Rattle.etp_text.specs.declared.reading.Part.TheVariants.{Wanted, Atom, Pair}
 use Rattle.etp_text.specs.declared.reading.Reading.{Reading}
@@ -26,7 +28,8 @@ behind_name (byte ∷ bytes) = if is_ascii_alphanumeric byte then behind_name by
 abbrev pub one_letter : ℕ → Token
 one_letter a =
     if nat_eq a 120 then Variable 0 else (if nat_eq a 121 then Variable 1 else (if nat_eq a 122 then Variable 2 else
-    (if nat_eq a 119 then Variable 3 else (if nat_eq a 117 then Variable 4 else (if nat_eq a 118 then Variable 5 else Unknown)))))
+    (if nat_eq a 119 then Variable 3 else (if nat_eq a 117 then Variable 4 else
+    (if nat_eq a 118 then Variable 5 else Unknown)))))
 
 abbrev pub two_bytes : ℕ → ℕ → Token
 two_bytes a b = if nat_eq a 118 && nat_le 54 b && nat_le b 57 then Variable (b - 48) else Unknown
@@ -84,15 +87,15 @@ abbrev pub closed : Option Tree → List (Option Tree) → Tree → Option State
 closed left [] t = None
 closed left (part ∷ parts) t = Some (record { left = left; open_parts = parts; stand = placed part t })
 
-abbrev pub divided : Bool → Option Tree → List (Option Tree) → Tree → Option State
-divided true None [] t = Some (record { left = Some t; open_parts = []; stand = wanted None })
+abbrev pub divided : Grammar → Option Tree → List (Option Tree) → Tree → Option State
+divided Laws None [] t = Some (record { left = Some t; open_parts = []; stand = wanted None })
 divided _ _ _ t = None
 
--- behind a token that ends a part; `laws` says whether = may stand
-abbrev pub end_from : Bool → Option Tree → List (Option Tree) → Tree → Token → Option State
-end_from laws left parts t Closing = closed left parts t
-end_from laws left parts t Equals = divided laws left parts t
-end_from laws left parts t _ = None
+-- behind a token that ends a part; = may stand in a law alone
+abbrev pub end_from : Grammar → Option Tree → List (Option Tree) → Tree → Token → Option State
+end_from grammar left parts t Closing = closed left parts t
+end_from grammar left parts t Equals = divided grammar left parts t
+end_from grammar left parts t _ = None
 
 -- behind a token where an atom is wanted
 abbrev pub begin_from : Option Tree → List (Option Tree) → Option Tree → Token → Option State
@@ -100,18 +103,18 @@ begin_from left parts part (Variable v) = Some (record { left = left; open_parts
 begin_from left parts part Opening = Some (record { left = left; open_parts = part ∷ parts; stand = wanted None })
 begin_from left parts part _ = None
 
-abbrev pub atom_from : Bool → Option Tree → List (Option Tree) → Tree → Token → Option State
-atom_from laws left parts t Operator = Some (record { left = left; open_parts = parts; stand = wanted (Some t) })
-atom_from laws left parts t token = end_from laws left parts t token
+abbrev pub atom_from : Grammar → Option Tree → List (Option Tree) → Tree → Token → Option State
+atom_from grammar left parts t Operator = Some (record { left = left; open_parts = parts; stand = wanted (Some t) })
+atom_from grammar left parts t token = end_from grammar left parts t token
 
 -- behind one more token
-abbrev pub step_from : Bool → Option Tree → List (Option Tree) → Stand → Token → Option State
-step_from laws left parts (wanted part) token = begin_from left parts part token
-step_from laws left parts (atom t) token = atom_from laws left parts t token
-step_from laws left parts (pair t) token = end_from laws left parts t token
+abbrev pub step_from : Grammar → Option Tree → List (Option Tree) → Stand → Token → Option State
+step_from grammar left parts (wanted part) token = begin_from left parts part token
+step_from grammar left parts (atom t) token = atom_from grammar left parts t token
+step_from grammar left parts (pair t) token = end_from grammar left parts t token
 
-abbrev pub step : Bool → State → Token → Option State
-step laws state token = step_from laws state.left state.open_parts state.stand token
+abbrev pub step : Grammar → State → Token → Option State
+step grammar state token = step_from grammar state.left state.open_parts state.stand token
 
 abbrev pub stand_of : Part → Stand
 stand_of (Wanted part) = wanted (option_map tree_of part)
@@ -119,12 +122,13 @@ stand_of (Atom t) = atom (tree_of t)
 stand_of (Pair t) = pair (tree_of t)
 
 abbrev pub state_of : Reading → State
-state_of r = record { left = option_map tree_of r.left; open_parts = map (option_map tree_of) r.opened; stand = stand_of r.part }
+state_of r =
+    record { left = option_map tree_of r.left; open_parts = map (option_map tree_of) r.opened; stand = stand_of r.part }
 
 -- behind all these tokens
-abbrev pub run : Bool → State → List Token → Option State
-run laws state [] = Some state
-run laws state (token ∷ tokens) = option_and_then (λ next. run laws next tokens) (step laws state token)
+abbrev pub run : Grammar → State → List Token → Option State
+run grammar state [] = Some state
+run grammar state (token ∷ tokens) = option_and_then (λ next. run grammar next tokens) (step grammar state token)
 
 -- the state behind one more token, or the refusal there; `as_if` is the step by a variable in an unknown name's place
 abbrev pub Takes : Option State → Option State → Token → ℕ → State → Result Unit TextRefusal → Type 0
@@ -135,17 +139,19 @@ Takes next as_if token at state (Err (TooLarge count)) = ⊥
 Takes next as_if token at state (Err NoMemory) = Unit {0}
 
 -- the texts that are read
-abbrev pub text_of : Bool → List Token → Type 0
-text_of true = IsLawText
-text_of false = IsTermText
+abbrev pub text_of : Grammar → List Token → Type 0
+text_of Laws = IsLawText
+text_of Terms = IsTermText
 
 -- the front of the bytes has been read
-abbrev pub HasRead : Bool → List ℕ → List ℕ → State → Type 0
-HasRead laws bytes rest state = (tokens : List Token) × Begins bytes tokens rest × (run laws start tokens ≡ Some state)
+abbrev pub HasRead : Grammar → List ℕ → List ℕ → State → Type 0
+HasRead grammar bytes rest state =
+    (tokens : List Token) × Begins bytes tokens rest × (run grammar start tokens ≡ Some state)
 
 -- all of the bytes have been read but blanks, from the place `end` on
-abbrev pub HasReadAll : Bool → List ℕ → State → ℕ → Type 0
-HasReadAll laws bytes state end = (rest : List ℕ) × AreBlanks rest × HasRead laws bytes rest state × (end + length rest ≡ length bytes)
+abbrev pub HasReadAll : Grammar → List ℕ → State → ℕ → Type 0
+HasReadAll grammar bytes state end =
+    (rest : List ℕ) × AreBlanks rest × HasRead grammar bytes rest state × (end + length rest ≡ length bytes)
 
 abbrev pub RefusesText : (List Token → Type 0) → List ℕ → TextRefusal → Type 0
 RefusesText Text bytes (Syntax at) = IsSyntaxAt Text bytes at

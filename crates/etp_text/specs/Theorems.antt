@@ -13,7 +13,8 @@ pub record TextTheorems : Type 0 where
   pub one_law : (bytes : List ℕ) (p q : Equation) → SpellsLaw bytes p → SpellsLaw bytes q → p ≡ q
   -- the written form spells what it is written of; the 64 variables are those that have a name
   pub written_term_spells : (t : Tree) → bound t ≤ 64 → SpellsTerm (written_term t) t
-  pub written_law_spells : (law : Equation) → bound law.left ≤ 64 → bound law.right ≤ 64 → SpellsLaw (written_law law) law
+  pub written_law_spells : (law : Equation) → bound law.left ≤ 64 → bound law.right ≤ 64
+      → SpellsLaw (written_law law) law
   -- the written form of a term takes at most ten bytes for each leaf, less seven
   pub written_term_short : (t : Tree) → bound t ≤ 64 → length (written_term t) + 7 ≤ 10 * leaves t
   -- what is spelled within the limit has no refusal

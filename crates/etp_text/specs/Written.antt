@@ -8,8 +8,11 @@ sign = 32 ∷ 226 ∷ 151 ∷ 135 ∷ 32 ∷ []
 
 -- the variables are x, y, z, w, u, v, v6, v7 and so on
 abbrev pub variable_name : ℕ → List ℕ
-variable_name v = if nat_eq v 0 then codes "x" else (if nat_eq v 1 then codes "y" else (if nat_eq v 2 then codes "z" else
-    (if nat_eq v 3 then codes "w" else (if nat_eq v 4 then codes "u" else (if nat_eq v 5 then codes "v" else codes "v" ++ decimal v)))))
+variable_name v =
+    if nat_eq v 0 then codes "x" else (if nat_eq v 1 then codes "y" else
+    (if nat_eq v 2 then codes "z" else
+    (if nat_eq v 3 then codes "w" else (if nat_eq v 4 then codes "u" else
+    (if nat_eq v 5 then codes "v" else codes "v" ++ decimal v)))))
 
 -- a part of an operation; a part that is an operation stands in parentheses
 abbrev pub written_part : Tree → List ℕ

@@ -6,7 +6,7 @@ ghost use Rattle.etp_text.specs.Grammar.{SpellsTerm, SpellsLaw};
 ghost use Rattle.etp_text.specs.Refusals.{side_limit, RefusesTerm, RefusesLaw, Gives};
 ghost use Rattle.etp_text.specs.Machine.{state_of, text_of, HasReadAll, RefusesText};
 
-use crate::reading::Reading;
+use crate::reading::{Grammar, Reading};
 use crate::refusal::TextRefusal;
 use crate::token::token_at;
 use etp_term::{Law, Term};
@@ -23,7 +23,7 @@ pub fn read_term(alloc: Global, bytes: &[u8]) -> Result<Term, TextRefusal>
     ensures only { (t : Tree) → SpellsTerm bytes.now t → leaves t ≤ side_limit
         → Gives tree_of t result }
 {
-    let (reading, end) = read_text(alloc, bytes, false)?;
+    let (reading, end) = read_text(alloc, bytes, Grammar::Terms)?;
     let term = reading.into_side(end)?;
     check_leaves(&term)?;
     Ok(term)
@@ -39,7 +39,7 @@ pub fn read_law(alloc: Global, bytes: &[u8]) -> Result<Law, TextRefusal>
     ensures only { (law : Equation) → SpellsLaw bytes.now law → leaves law.left ≤ side_limit
         → leaves law.right ≤ side_limit → Gives equation_of law result }
 {
-    let (mut reading, end) = read_text(alloc, bytes, true)?;
+    let (mut reading, end) = read_text(alloc, bytes, Grammar::Laws)?;
     let Some(left) = reading.left.take() else {
         return Err(TextRefusal::Syntax { at: end });
     };
@@ -50,10 +50,10 @@ pub fn read_law(alloc: Global, bytes: &[u8]) -> Result<Law, TextRefusal>
 }
 
 /// Reads all tokens of a text, and says behind which byte the last one ends.
-fn read_text(alloc: Global, bytes: &[u8], laws: bool) -> Result<(Reading, u32), TextRefusal>
+fn read_text(alloc: Global, bytes: &[u8], grammar: Grammar) -> Result<(Reading, u32), TextRefusal>
     requires { length bytes.now ≤ 4096 }
     ensures { MatchResult result (λ r.
-        HasReadAll laws bytes.now (state_of r.0) r.1) (RefusesText (text_of laws) bytes.now) }
+        HasReadAll grammar bytes.now (state_of r.0) r.1) (RefusesText (text_of grammar) bytes.now) }
 {
     let mut reading = Reading::start(alloc);
     let mut rest = bytes;
@@ -66,7 +66,7 @@ fn read_text(alloc: Global, bytes: &[u8], laws: bool) -> Result<(Reading, u32), 
         let Some((token, behind)) = token_at(next) else {
             return Err(TextRefusal::Syntax { at });
         };
-        reading.advance(alloc, laws, token, at)?;
+        reading.advance(alloc, grammar, token, at)?;
         rest = behind;
     }
 }

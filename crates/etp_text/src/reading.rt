@@ -13,6 +13,15 @@ use std::alloc::{AllocError, Global};
 use std::marker::Model;
 use std::mem;
 
+/// What a text is read as.
+#[derive(Clone, Copy)]
+pub(crate) enum Grammar {
+    /// A term, in which `=` has no place.
+    Terms,
+    /// A law, two terms with `=` between them.
+    Laws,
+}
+
 /// What stands of a side: an atom is wanted, maybe behind a part and an operator; or an atom
 /// stands; or two with an operator between.
 #[derive(Drop)]
@@ -92,22 +101,22 @@ impl Reading {
         }
     }
 
-    /// Goes past one more token. `laws` says whether `=` may stand; the token's place is `at`.
+    /// Goes past one more token, whose place is `at`.
     pub(crate) fn advance(
         &mut self,
         alloc: Global,
-        laws: bool,
+        grammar: Grammar,
         token: Token,
         at: u32,
     ) -> Result<(), TextRefusal>
-        ensures { Takes (step laws (state_of self.old) token)
-            (step laws (state_of self.old) (as_variable token)) token at
+        ensures { Takes (step grammar (state_of self.old) token)
+            (step grammar (state_of self.old) (as_variable token)) token at
             (state_of self.new) result }
     {
         match mem::replace(&mut self.part, Part::Wanted(None)) {
             Part::Wanted(before) => self.begin(alloc, before, token, at),
-            Part::Atom(side) => self.behind_atom(alloc, laws, side, token, at),
-            Part::Pair(side) => self.end(alloc, laws, side, token, at),
+            Part::Atom(side) => self.behind_atom(alloc, grammar, side, token, at),
+            Part::Pair(side) => self.end(alloc, grammar, side, token, at),
         }
     }
 
@@ -140,15 +149,15 @@ impl Reading {
     fn behind_atom(
         &mut self,
         alloc: Global,
-        laws: bool,
+        grammar: Grammar,
         side: Term,
         token: Token,
         at: u32,
     ) -> Result<(), TextRefusal>
         ensures { let s = option_map tree_of self.old.left in
             let p = map (option_map tree_of) self.old.opened in
-            Takes (atom_from laws s p (tree_of side) token)
-            (atom_from laws s p (tree_of side) (as_variable token)) token at
+            Takes (atom_from grammar s p (tree_of side) token)
+            (atom_from grammar s p (tree_of side) (as_variable token)) token at
             (state_of self.new) result }
     {
         match token {
@@ -156,7 +165,7 @@ impl Reading {
                 self.part = Part::Wanted(Some(Boxed::new(alloc, side)?));
                 Ok(())
             }
-            _ => self.end(alloc, laws, side, token, at),
+            _ => self.end(alloc, grammar, side, token, at),
         }
     }
 
@@ -164,20 +173,20 @@ impl Reading {
     fn end(
         &mut self,
         alloc: Global,
-        laws: bool,
+        grammar: Grammar,
         side: Term,
         token: Token,
         at: u32,
     ) -> Result<(), TextRefusal>
         ensures { let s = option_map tree_of self.old.left in
             let p = map (option_map tree_of) self.old.opened in
-            Takes (end_from laws s p (tree_of side) token)
-            (end_from laws s p (tree_of side) (as_variable token)) token at
+            Takes (end_from grammar s p (tree_of side) token)
+            (end_from grammar s p (tree_of side) (as_variable token)) token at
             (state_of self.new) result }
     {
         match token {
             Token::Closing => self.close(alloc, side, at),
-            Token::Equals => self.divide(laws, side, at),
+            Token::Equals => self.divide(grammar, side, at),
             _ => Err(TextRefusal::Syntax { at }),
         }
     }
@@ -196,17 +205,18 @@ impl Reading {
     }
 
     /// Goes past the sign between the sides of a law.
-    fn divide(&mut self, laws: bool, side: Term, at: u32) -> Result<(), TextRefusal>
-        ensures { let next = divided laws (option_map tree_of self.old.left)
+    fn divide(&mut self, grammar: Grammar, side: Term, at: u32) -> Result<(), TextRefusal>
+        ensures { let next = divided grammar (option_map tree_of self.old.left)
             (map (option_map tree_of) self.old.opened) (tree_of side) in
             Takes next next Token.Equals at (state_of self.new) result }
     {
-        if laws && self.left.is_none() && self.opened.is_empty() {
-            self.left = Some(side);
-            self.part = Part::Wanted(None);
-            Ok(())
-        } else {
-            Err(TextRefusal::Syntax { at })
+        match grammar {
+            Grammar::Laws if self.left.is_none() && self.opened.is_empty() => {
+                self.left = Some(side);
+                self.part = Part::Wanted(None);
+                Ok(())
+            }
+            _ => Err(TextRefusal::Syntax { at }),
         }
     }
 

@@ -1,9 +1,10 @@
 use Rattle.std.proofs.Common.{◌≡◌, ℕ, List, [], ◌∷◌, Some, sym, subst, subst₂}
+use Rattle.std.proofs.lemmas.Option.{same_Some}
 use Rattle.etp_theory.specs.Trees.{Tree, var, op, dual, law_dual, Equation}
 use Rattle.etp_theory.specs.Substitutions.{apply, then_apply}
 use Rattle.etp_theory.specs.Positions.{Side, to_left, to_right, sub_at, put_at}
 use Rattle.etp_theory.specs.Derivations.{Concludes, by_law, reflexive, symmetric, transitive, congruent, Derives}
-use Rattle.etp_theory.proofs.Trees.{composed, identity, some-eq, dual_applied, law_dual_dual}
+use Rattle.etp_theory.proofs.Trees.{composed, identity, dual_applied, law_dual_dual}
 
 pub substituted : (e : Equation) {p q : Tree} (s : ℕ → Tree) → Concludes e p q → Concludes e (apply s p) (apply s q)
 substituted e s (by_law m) = subst₂ (Concludes e) (sym (composed m s e.left)) (sym (composed m s e.right)) (by_law (then_apply m s))
@@ -27,7 +28,7 @@ chained e f h (transitive d d') = transitive (chained e f h d) (chained e f h d'
 chained e f h (congruent d d') = congruent (chained e f h d) (chained e f h d')
 
 pub inside : (e : Equation) (p : List Side) (s u v : Tree) → sub_at p s ≡ Some u → Concludes e u v → Concludes e s (put_at p s v)
-inside e [] s u v h d = subst (λ x. Concludes e x v) (sym (some-eq h)) d
+inside e [] s u v h d = subst (λ x. Concludes e x v) (sym (same_Some _ _ h)) d
 inside e (to_left ∷ p) (var x) u v h d = reflexive (var x)
 inside e (to_left ∷ p) (op l r) u v h d = congruent (inside e p l u v h d) (reflexive r)
 inside e (to_right ∷ p) (var x) u v h d = reflexive (var x)

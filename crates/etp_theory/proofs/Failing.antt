@@ -1,6 +1,7 @@
 -- An overlap passes or fails, and a system that isn't convergent has a first failing one.
 use Rattle.std.proofs.Common.{◌≡◌, ℕ, ◌<◌, ◌⊎◌, inl, inr, ◌↔◌, List, [], ◌∷◌, length, Option, Some, None, slice_get, refl, sym, ap, ap₂, ◌∙◌, subst, subst₂}
 use Rattle.std.proofs.lemmas.Option.{slice_get_within}
+use Rattle.std.proofs.lemmas.Bool.{cases_eq}
 use Rattle.etp_theory.specs.Trees.{Tree, var, op, Equation}
 use Rattle.etp_theory.specs.Substitutions.{apply, raise}
 use Rattle.etp_theory.specs.Positions.{Side, sub_at, put_at}
@@ -9,7 +10,7 @@ use Rattle.etp_theory.specs.Forms.{HaveOneForm}
 use Rattle.etp_theory.specs.Unifiers.{IsMostGeneral, IsBest, NoUnifier}
 use Rattle.etp_theory.specs.Overlaps.{Overlap, outer_part, inner_part, left_result, right_result, HasSmallVariables, IsConvergent, PairPasses, no_unifier, one_form}
 use Rattle.etp_theory.specs.FailingOverlaps.{PositionBefore, Place, place, PlaceBefore, by_outer, by_position, by_inner, IsCriticalPair, Finding, IsFinding, finding_under, FailsBy, IsFirstFailing}
-use Rattle.etp_theory.proofs.Unifiers.{Mgu, unify, best_of, through, eq_or_ne}
+use Rattle.etp_theory.proofs.Unifiers.{Mgu, unify, best_of, through}
 use Rattle.etp_theory.proofs.General.{general_of_best}
 use Rattle.etp_theory.proofs.Renaming.{all_kept, right_through, both_ways, finding_undone}
 use Rattle.etp_theory.proofs.Passing.{convergent_of, all_pass}
@@ -87,7 +88,7 @@ module _ (rules : List Equation) where
     at_part : (p : List Side) (e f : Equation) → slice_get rules i ≡ Some e → slice_get rules j ≡ Some f → (t : Option Tree) → sub_at p e.left ≡ t → There i p j
     at_part p e f h k None q = inr (λ o a. (let z : None ≡ Some (outer_part o) = sym q ∙ part_is i j p o a e h in cc))
     at_part p e f h k (Some (var v)) q = inr (λ o a. (let z : Some (var v) ≡ Some (outer_part o) = sym q ∙ part_is i j p o a e h in cc))
-    at_part p e f h k (Some (op x y)) q = not_own_root p e f x y h k q (eq_or_ne i j)
+    at_part p e f h k (Some (op x y)) q = not_own_root p e f x y h k q (cases_eq i j)
 
     there : (p : List Side) → There i p j
     there p = go (slice_get rules i) refl (slice_get rules j) refl

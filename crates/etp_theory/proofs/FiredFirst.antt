@@ -1,11 +1,11 @@
 -- The step that is fired is the first one of the term.
 use Rattle.std.proofs.Common.{◌≡◌, ℕ, zero, suc, ◌+◌, ◌≤◌, ◌⊎◌, inl, inr, cond, List, [], ◌∷◌, Option, Some, None, slice_get, refl, sym, ap, ◌∙◌, subst, arith}
+use Rattle.std.proofs.lemmas.Option.{same_Some}
 use Rattle.etp_theory.specs.Trees.{Tree, var, op, Equation}
 use Rattle.etp_theory.specs.Substitutions.{apply}
 use Rattle.etp_theory.specs.Positions.{Side, to_left, to_right, sub_at}
 use Rattle.etp_theory.specs.Rewriting.{StepAt}
 use Rattle.etp_theory.specs.Strategy.{first_some, within, matcher, try_rule, next, Fired, fired_root, fired_inside, fired, TriedBefore}
-use Rattle.etp_theory.proofs.Trees.{some-eq}
 use Rattle.etp_theory.proofs.Matching.{rule_none, next_none}
 use Rattle.etp_theory.proofs.Rewriting.{step_of_at}
 use Rattle.etp_theory.proofs.Firing.{fired_next}
@@ -46,15 +46,12 @@ total (to_right ∷ p) (to_right ∷ q) = inside to_right p q (λ h. h) (λ h. h
 
 -- at one place the lowest rule is fired
 
-some_is : {a b : Fired} → Some a ≡ Some b → a ≡ b
-some_is h = cc
-
 lowest : (n : ℕ) (rest : List Equation) (t : Tree) (x : Fired) → fired_root n rest t ≡ Some x → (i : ℕ) (e : Equation) (m : ℕ → Tree) → slice_get rest i ≡ Some e → t ≡ apply m e.left → x.number ≤ n + i
 lowest n [] t x h i e m g k = absurd (cc)
 lowest n (r ∷ rest) t x h i e m g k = go (try_rule r t) refl h i g (lowest (suc n) rest t x)
   where
     go : (o : Option Tree) → try_rule r t ≡ o → first_some (within (λ y. record { number = n; position = []; to = y }) o) (fired_root (suc n) rest t) ≡ Some x → (j : ℕ) → slice_get (r ∷ rest) j ≡ Some e → (fired_root (suc n) rest t ≡ Some x → (j' : ℕ) (e' : Equation) (m' : ℕ → Tree) → slice_get rest j' ≡ Some e' → t ≡ apply m' e'.left → x.number ≤ suc n + j') → x.number ≤ n + j
-    go (Some y) q f j l later = let z : n ≡ x.number = ap (λ (u : Fired). u.number) (some_is f) in omega (arith, z)
+    go (Some y) q f j l later = let z : n ≡ x.number = ap (λ (u : Fired). u.number) (same_Some _ _ f) in omega (arith, z)
     go None q f (suc j) l later = omega (arith, later f j e m l k)
     go None q f zero l later =
         let first : r ≡ e = cc in
@@ -67,7 +64,7 @@ root_place n [] t x h = absurd (cc)
 root_place n (r ∷ rest) t x h = go (try_rule r t) h (root_place (suc n) rest t x)
   where
     go : (o : Option Tree) → first_some (within (λ y. record { number = n; position = []; to = y }) o) (fired_root (suc n) rest t) ≡ Some x → (fired_root (suc n) rest t ≡ Some x → x.position ≡ []) → x.position ≡ []
-    go (Some y) f later = sym (ap (λ (u : Fired). u.position) (some_is f))
+    go (Some y) f later = sym (ap (λ (u : Fired). u.position) (same_Some _ _ f))
     go None f later = later f
 
 -- and none at a place that is tried before
@@ -85,7 +82,7 @@ module _ (rules : List Equation) (i : ℕ) (e : Equation) (m : ℕ → Tree) (li
   at_root s x h k = (λ b. b, λ q. omega (arith, lowest 0 rules s x h i e m listed k))
 
   pub first : (s : Tree) (x : Fired) → fired rules s ≡ Some x → (p : List Side) → sub_at p s ≡ Some (apply m e.left) → First p i x
-  first (var v) x h [] k = at_root (var v) x h (some-eq k)
+  first (var v) x h [] k = at_root (var v) x h (same_Some _ _ k)
   first (var v) x h (to_left ∷ p) k = absurd (cc)
   first (var v) x h (to_right ∷ p) k = absurd (cc)
   first (op l r) x h p k = go (fired rules l) refl (fired rules r) refl h p k (first l) (first r)
@@ -95,19 +92,19 @@ module _ (rules : List Equation) (i : ℕ) (e : Equation) (m : ℕ → Tree) (li
           (q : List Side) → sub_at q (op l r) ≡ Some (apply m e.left) →
           ((y : Fired) → fired rules l ≡ Some y → (q' : List Side) → sub_at q' l ≡ Some (apply m e.left) → First q' i y) →
           ((y : Fired) → fired rules r ≡ Some y → (q' : List Side) → sub_at q' r ≡ Some (apply m e.left) → First q' i y) → First q i x
-      go (Some y) f b g j q u in_l in_r = subst (First q i) (some_is j) (left q u)
+      go (Some y) f b g j q u in_l in_r = subst (First q i) (same_Some _ _ j) (left q u)
         where
           left : (q : List Side) → sub_at q (op l r) ≡ Some (apply m e.left) → First q i (fired_inside to_left (λ z. op z r) y)
           left [] u = (λ b. b, λ c. absurd (cc))
           left (to_left ∷ q) u = let w = in_l y f q u in (w.0, λ c. w.1 (cc))
           left (to_right ∷ q) u = (λ b. b, λ c. absurd (cc))
-      go None f (Some y) g j q u in_l in_r = subst (First q i) (some_is j) (right q u)
+      go None f (Some y) g j q u in_l in_r = subst (First q i) (same_Some _ _ j) (right q u)
         where
           right : (q : List Side) → sub_at q (op l r) ≡ Some (apply m e.left) → First q i (fired_inside to_right (λ z. op l z) y)
           right [] u = (λ b. b, λ c. absurd (cc))
           right (to_left ∷ q) u = absurd (none_there q l f u)
           right (to_right ∷ q) u = let w = in_r y g q u in (w.0, λ c. w.1 (cc))
-      go None f None g j [] u in_l in_r = at_root (op l r) x j (some-eq u)
+      go None f None g j [] u in_l in_r = at_root (op l r) x j (same_Some _ _ u)
       go None f None g j (to_left ∷ q) u in_l in_r = absurd (none_there q l f u)
       go None f None g j (to_right ∷ q) u in_l in_r = absurd (none_there q r g u)
 

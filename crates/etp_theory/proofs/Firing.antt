@@ -1,5 +1,6 @@
 -- The strategy's step with its rule and its position is the strategy's step.
 use Rattle.std.proofs.Common.{◌≡◌, ℕ, suc, ◌+◌, List, [], ◌∷◌, Option, Some, None, slice_get, refl, sym, ap, ap₂, ◌∙◌, subst, arith}
+use Rattle.std.proofs.lemmas.Option.{same_Some}
 use Rattle.etp_theory.specs.Trees.{Tree, var, op, Equation}
 use Rattle.etp_theory.specs.Substitutions.{apply}
 use Rattle.etp_theory.specs.Positions.{Side, to_left, to_right, sub_at, put_at}
@@ -46,9 +47,6 @@ pub record FiredAt (rules : List Equation) (s : Tree) (x : Fired) : Type 0 where
   pub here : sub_at x.position s ≡ Some (apply by rule.left)
   pub there : x.to ≡ put_at x.position s (apply by rule.right)
 
-some_is : {a b : Fired} → Some a ≡ Some b → a ≡ b
-some_is h = cc
-
 -- rules that follow the first `n` of all
 abbrev pub Following : ℕ → List Equation → List Equation → Type 0
 Following n all rest = (i : ℕ) → slice_get rest i ≡ slice_get all (n + i)
@@ -65,7 +63,7 @@ root_at all n (e ∷ rest) f t x h = go (try_rule e t) refl h (root_at all (suc 
     go (Some y) q k later =
         let r = rule_some e t y (same (apply (matcher e.left t) e.left) t) refl q in
         let listed : slice_get all n ≡ Some e = ap (slice_get all) (let z : n ≡ n + 0 = omega arith in z) ∙ sym (f 0) in
-        subst (FiredAt all t) (some_is k) (record { rule = e; by = matcher e.left t; listed = listed; here = ap Some r.0; there = r.1 })
+        subst (FiredAt all t) (same_Some _ _ k) (record { rule = e; by = matcher e.left t; listed = listed; here = ap Some r.0; there = r.1 })
 
 fired_facts : (rules : List Equation) (s : Tree) (x : Fired) → fired rules s ≡ Some x → FiredAt rules s x
 fired_facts rules (var v) x h = root_at rules 0 rules (λ i. ap (slice_get rules) (let q : i ≡ 0 + i = omega arith in q)) (var v) x h
@@ -76,10 +74,10 @@ fired_facts rules (op l r) x h = go (fired rules l) refl (fired rules r) refl h 
         ((y : Fired) → fired rules l ≡ Some y → FiredAt rules l y) → ((y : Fired) → fired rules r ≡ Some y → FiredAt rules r y) → FiredAt rules (op l r) x
     go (Some y) q b p k f g =
         let u = f y q in
-        subst (FiredAt rules (op l r)) (some_is k) (record { rule = u.rule; by = u.by; listed = u.listed; here = u.here; there = ap (λ z. op z r) u.there })
+        subst (FiredAt rules (op l r)) (same_Some _ _ k) (record { rule = u.rule; by = u.by; listed = u.listed; here = u.here; there = ap (λ z. op z r) u.there })
     go None q (Some y) p k f g =
         let u = g y p in
-        subst (FiredAt rules (op l r)) (some_is k) (record { rule = u.rule; by = u.by; listed = u.listed; here = u.here; there = ap (λ z. op l z) u.there })
+        subst (FiredAt rules (op l r)) (same_Some _ _ k) (record { rule = u.rule; by = u.by; listed = u.listed; here = u.here; there = ap (λ z. op l z) u.there })
     go None q None p k f g = root_at rules 0 rules (λ i. ap (slice_get rules) (let z : i ≡ 0 + i = omega arith in z)) (op l r) x k
 
 pub fired_at : (rules : List Equation) (s : Tree) (x : Fired) → fired rules s ≡ Some x → (h : StepAt rules s x.to) × (h.number ≡ x.number) × (h.position ≡ x.position)

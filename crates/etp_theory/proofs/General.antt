@@ -1,5 +1,6 @@
 -- Most general unifiers: finite maps and total functions, and other names of their variables.
 use Rattle.std.proofs.Common.{◌≡◌, ℕ, ◌-◌, ◌+◌, ◌<◌, ◌≤◌, max, ◌⊎◌, inl, inr, List, ◌↔◌, refl, sym, ap, ◌∙◌, arith}
+use Rattle.std.proofs.lemmas.Bool.{cases_eq}
 use Rattle.etp_theory.specs.Trees.{Tree, var, op, bound, Occurs, renamed, Equation}
 use Rattle.etp_theory.specs.Substitutions.{apply, then_apply, Partial, value_or, total}
 use Rattle.etp_theory.specs.Unifiers.{IsMostGeneral, IsMostGeneralPartial, IsBest, NoUnifier}
@@ -9,7 +10,7 @@ use Rattle.etp_theory.proofs.Trees.{composed}
 use Rattle.etp_theory.proofs.Matching.{apply_agree}
 use Rattle.etp_theory.specs.Theorems.{UnificationTheorems}
 use Rattle.etp_theory.proofs.Finite.{finite_enough}
-use Rattle.etp_theory.proofs.Unifiers.{Mgu, mgu, unify, general, best_of, limit, finite, partial_of, total_of, partial_mgu, apply_same, occurs_bound, occurs_dec, eq_or_ne}
+use Rattle.etp_theory.proofs.Unifiers.{Mgu, mgu, unify, general, best_of, limit, finite, partial_of, total_of, partial_mgu, apply_same, occurs_bound, occurs_dec}
 use Rattle.etp_theory.proofs.Sameness.{renamed_applied}
 use Rattle.etp_theory.proofs.Renaming.{right_through}
 use Rattle.etp_theory.proofs.Places.{first_below}
@@ -119,7 +120,7 @@ module _ (f : ℕ → ℕ) (s t : Tree) where
   NamedBy y v = Within v × (f v ≡ y)
 
   named_dec : (y v : ℕ) → (NamedBy y v → ⊥) ⊎ NamedBy y v
-  named_dec y v = go (within_dec v) (eq_or_ne (f v) y)
+  named_dec y v = go (within_dec v) (cases_eq (f v) y)
     where
       go : Within v ⊎ (Within v → ⊥) → (f v ≡ y) ⊎ (f v ≡ y → ⊥) → (NamedBy y v → ⊥) ⊎ NamedBy y v
       go (inl o) (inl e) = inr (o, e)

@@ -1,4 +1,5 @@
 pub mod Trees
+pub mod Comparing
 pub mod Orders
 pub mod Derivations
 pub mod Sameness

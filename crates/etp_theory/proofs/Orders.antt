@@ -1,14 +1,15 @@
 -- The orders of shapes and of laws are total, and only equal ones compare as equal.
 use Rattle.std.specs.Ordering.{nat_cmp, ordering_then, ordering_reverse}
-use Rattle.std.specs.Cmp.{IsTotalOrder, nat_cmp_is}
+use Rattle.std.specs.Cmp.{IsTotalOrder}
 use Rattle.std.specs.Cmp.Lexicographic.{slice_cmp, on_texts}
 use Rattle.std.specs.declared.cmp.Ordering.{Ordering}
-use Rattle.std.specs.declared.cmp.Ordering.TheVariants.{Less, Equal, Greater}
+use Rattle.std.specs.declared.cmp.Ordering.TheVariants.{Equal}
 use Rattle.std.proofs.lemmas.Map.Lookups.{exact_bytes}
 use Rattle.std.proofs.lemmas.List.{append-nil, append_assoc}
-use Rattle.std.proofs.Common.{◌≡◌, ℕ, ◌+◌, ◌<◌, List, [], ◌∷◌, ◌++◌, length, refl, sym, ap, ap₂, ◌∙◌, arith, length-append}
+use Rattle.std.proofs.Common.{◌≡◌, ℕ, ◌+◌, List, [], ◌∷◌, ◌++◌, length, refl, sym, ap, ap₂, ◌∙◌, arith, length-append}
 use Rattle.etp_theory.specs.Trees.{Tree, var, op, Shape, leaf, fork, Equation, ops, leaves, shape_of, shape_ops, word_of, law_ops, law_word}
 use Rattle.etp_theory.specs.Orders.{shape_cmp, law_cmp}
+use Rattle.etp_theory.proofs.Comparing.{nat_cmp-less, nat_cmp-greater, then_assoc, then_equal, then_both}
 use Rattle.etp_theory.proofs.Trees.{pair_eq}
 
 pub leaves_ops : (t : Tree) → leaves t ≡ ops t + 1
@@ -43,33 +44,17 @@ abbrev pub code : Shape → List ℕ
 code leaf = 0 ∷ []
 code (fork a b) = shape_ops (fork a b) ∷ (code a ++ code b)
 
-then_then : (a b c : Ordering) → ordering_then (ordering_then a b) c ≡ ordering_then a (ordering_then b c)
-then_then Less b c = refl
-then_then Equal b c = refl
-then_then Greater b c = refl
-
-then_equal : (a : Ordering) → ordering_then a Equal ≡ a
-then_equal Less = refl
-then_equal Equal = refl
-then_equal Greater = refl
-
-cmp_less : (x y : ℕ) → x < y → nat_cmp x y ≡ Less
-cmp_less x y h = sym (nat_cmp_is x y Less h)
-
-cmp_greater : (x y : ℕ) → y < x → nat_cmp x y ≡ Greater
-cmp_greater x y h = sym (nat_cmp_is x y Greater h)
-
 code_cmp : (s t : Shape) (xs ys : List ℕ) → slice_cmp nat_cmp (code s ++ xs) (code t ++ ys) ≡ ordering_then (shape_cmp s t) (slice_cmp nat_cmp xs ys)
 code_cmp leaf leaf xs ys = refl
-code_cmp leaf (fork c d) xs ys = ap (λ o. ordering_then o (slice_cmp nat_cmp xs ((code c ++ code d) ++ ys))) (cmp_less 0 (shape_ops (fork c d)) (omega arith))
-code_cmp (fork a b) leaf xs ys = ap (λ o. ordering_then o (slice_cmp nat_cmp ((code a ++ code b) ++ xs) ys)) (cmp_greater (shape_ops (fork a b)) 0 (omega arith))
+code_cmp leaf (fork c d) xs ys = ap (λ o. ordering_then o (slice_cmp nat_cmp xs ((code c ++ code d) ++ ys))) (nat_cmp-less 0 (shape_ops (fork c d)) (omega arith))
+code_cmp (fork a b) leaf xs ys = ap (λ o. ordering_then o (slice_cmp nat_cmp ((code a ++ code b) ++ xs) ys)) (nat_cmp-greater (shape_ops (fork a b)) 0 (omega arith))
 code_cmp (fork a b) (fork c d) xs ys =
     let n = nat_cmp (shape_ops (fork a b)) (shape_ops (fork c d)) in
     let rest = slice_cmp nat_cmp xs ys in
     ap₂ (λ u v. ordering_then (nat_cmp (shape_ops (fork a b)) (shape_ops (fork c d))) (slice_cmp nat_cmp u v)) (append_assoc (code a) (code b) xs) (append_assoc (code c) (code d) ys)
     ∙ ap (ordering_then n) (code_cmp a c (code b ++ xs) (code d ++ ys) ∙ ap (ordering_then (shape_cmp a c)) (code_cmp b d xs ys))
-    ∙ ap (ordering_then n) (sym (then_then (shape_cmp a c) (shape_cmp b d) rest))
-    ∙ sym (then_then n (ordering_then (shape_cmp a c) (shape_cmp b d)) rest)
+    ∙ ap (ordering_then n) (sym (then_assoc (shape_cmp a c) (shape_cmp b d) rest))
+    ∙ sym (then_assoc n (ordering_then (shape_cmp a c) (shape_cmp b d)) rest)
 
 shape_code : (s t : Shape) → shape_cmp s t ≡ slice_cmp nat_cmp (code s) (code t)
 shape_code s t =
@@ -99,24 +84,19 @@ shape_order = moved shape_cmp (λ s t. slice_cmp nat_cmp (code s) (code t)) shap
 pub law_order : IsTotalOrder law_cmp
 law_order = moved law_cmp (λ p q. slice_cmp nat_cmp (law_code p) (law_code q)) law_coded (on_texts law_code)
 
-both_equal : (a b : Ordering) → ordering_then a b ≡ Equal → (a ≡ Equal) × (b ≡ Equal)
-both_equal Less b h = absurd (cc)
-both_equal Equal b h = (refl, h)
-both_equal Greater b h = absurd (cc)
-
 pub shape_equal : (s t : Shape) → shape_cmp s t ≡ Equal → s ≡ t
 shape_equal leaf leaf h = refl
 shape_equal leaf (fork c d) h = absurd (cc)
 shape_equal (fork a b) leaf h = absurd (cc)
 shape_equal (fork a b) (fork c d) h =
-    let k = both_equal (nat_cmp (shape_ops (fork a b)) (shape_ops (fork c d))) (ordering_then (shape_cmp a c) (shape_cmp b d)) h in
-    let l = both_equal (shape_cmp a c) (shape_cmp b d) k.1 in
+    let k = then_both (nat_cmp (shape_ops (fork a b)) (shape_ops (fork c d))) (ordering_then (shape_cmp a c) (shape_cmp b d)) h in
+    let l = then_both (shape_cmp a c) (shape_cmp b d) k.1 in
     ap₂ fork (shape_equal a c l.0) (shape_equal b d l.1)
 
 pub law_equal : (p q : Equation) → law_cmp p q ≡ Equal → p ≡ q
 law_equal p q h =
-    let k = both_equal (nat_cmp (law_ops p) (law_ops q)) _ h in
-    let l = both_equal (shape_cmp (shape_of p.left) (shape_of q.left)) _ k.1 in
-    let r = both_equal (shape_cmp (shape_of p.right) (shape_of q.right)) (slice_cmp nat_cmp (law_word p) (law_word q)) l.1 in
+    let k = then_both (nat_cmp (law_ops p) (law_ops q)) _ h in
+    let l = then_both (shape_cmp (shape_of p.left) (shape_of q.left)) _ k.1 in
+    let r = then_both (shape_cmp (shape_of p.right) (shape_of q.right)) (slice_cmp nat_cmp (law_word p) (law_word q)) l.1 in
     let left = read_back p.left q.left (word_of p.right) (word_of q.right) (shape_equal _ _ l.0) (exact_bytes (law_word p) (law_word q) r.1) in
     pair_eq left.0 (shape_and_word p.right q.right (shape_equal _ _ r.0) left.1)

@@ -1,11 +1,12 @@
 use Rattle.std.proofs.Common.{◌≡◌, ◌≢◌, ℕ, ◌<◌, ◌≤◌, ◌+◌, ◌-◌, ◌*◌, ◌⊎◌, inl, inr, Bool, true, false, cond, eqb, ltb, List, [], ◌∷◌, Some, slice_get, refl, sym, ap, ap₂, ◌∙◌, subst, subst₂, arith, eqb-true, eq-eqb, lt-ltb, le-ltb}
+use Rattle.std.proofs.lemmas.Bool.{cases_eq}
+use Rattle.std.proofs.lemmas.Option.{same_Some}
 use Rattle.etp_theory.specs.Trees.{Tree, var, op, bound, Occurs, Equation}
 use Rattle.etp_theory.specs.Substitutions.{apply, raise}
 use Rattle.etp_theory.specs.Positions.{Side, to_left, to_right, sub_at, put_at}
 use Rattle.etp_theory.specs.Rewriting.{Step, at_root, in_left, in_right, Steps, stop, Joinable, IsLocallyConfluent}
 use Rattle.etp_theory.specs.Weights.{Weight, coefficient, IsDecreasing, AllDecrease}
 use Rattle.etp_theory.specs.Overlaps.{Overlap, PairsJoin, HasSmallVariables}
-use Rattle.etp_theory.proofs.Trees.{some-eq}
 use Rattle.etp_theory.proofs.Rewriting.{one, then, steps_both, steps_pointwise, join_swapped, join_left, join_right}
 use Rattle.etp_theory.proofs.Matching.{apply_agree, agree_of_apply}
 
@@ -19,9 +20,6 @@ pub data OpStep (rules : List Equation) (x y b : Tree) : Type 0 where
 pub data Where (rules : List Equation) (m : ℕ → Tree) (l b : Tree) : Type 0 where
   in_variable : (n : ℕ → Tree) → ((v : ℕ) → Steps rules (m v) (n v)) → Steps rules b (apply n l) → Where rules m l b
   at_part : (p : List Side) (i : ℕ) (e : Equation) (k : ℕ → Tree) (x y : Tree) → slice_get rules i ≡ Some e → sub_at p l ≡ Some (op x y) → apply m (op x y) ≡ apply k e.left → b ≡ put_at p (apply m l) (apply k e.right) → Where rules m l b
-
-eq_or_ne : (i j : ℕ) → (i ≡ j) ⊎ (i ≢ j)
-eq_or_ne i j = grind arith
 
 -- a variable that occurs on the right occurs on the left
 no_or_occurs : (w : Weight) (v : ℕ) (t : Tree) → (coefficient w t v ≡ 0) ⊎ Occurs v t
@@ -67,7 +65,7 @@ merged_high m k (var v) =
 merged_high m k (op a b) = ap₂ op (merged_high m k a) (merged_high m k b)
 
 bound_part : (p : List Side) (t u : Tree) → sub_at p t ≡ Some u → bound u ≤ bound t
-bound_part [] t u h = subst (λ x. bound x ≤ bound t) (some-eq h) (omega arith)
+bound_part [] t u h = subst (λ x. bound x ≤ bound t) (same_Some _ _ h) (omega arith)
 bound_part (to_left ∷ p) (var x) u h = absurd (cc)
 bound_part (to_left ∷ p) (op l r) u h = omega (arith, bound_part p l u h)
 bound_part (to_right ∷ p) (var x) u h = absurd (cc)
@@ -138,7 +136,7 @@ module _ (rules : List Equation) where
 
     part_case : (i : ℕ) (e : Equation) (m : ℕ → Tree) → slice_get rules i ≡ Some e → (p : List Side) (j : ℕ) (e' : Equation) (k : ℕ → Tree) (x y : Tree) → slice_get rules j ≡ Some e' → sub_at p e.left ≡ Some (op x y) → apply m (op x y) ≡ apply k e'.left → (i ≡ j) ⊎ (i ≢ j) → Joinable rules (apply m e.right) (put_at p (apply m e.left) (apply k e'.right))
     part_case i e m g [] j e' k x y g' h u (inl q) =
-        let u' : apply m e.left ≡ apply k e'.left = ap (apply m) (some-eq h) ∙ u in
+        let u' : apply m e.left ≡ apply k e'.left = ap (apply m) (same_Some _ _ h) ∙ u in
         let r = same_case i j e e' m k g g' q u' in
         record { meet = apply m e.right; from_left = stop (apply m e.right); from_right = subst (λ z. Steps rules z (apply m e.right)) r (stop (apply m e.right)) }
     part_case i e m g [] j e' k x y g' h u (inr q) = overlap_case i e m g [] j e' k x y g' h u (λ a b. q b)
@@ -150,7 +148,7 @@ module _ (rules : List Equation) where
       from_left = steps_pointwise rules m n hs e.right;
       from_right = then rules st (one rules (at_root i e n g refl refl));
     }
-    where_case i e m b g (at_part p j e' k x y g' h u t) = subst (Joinable rules (apply m e.right)) (sym t) (part_case i e m g p j e' k x y g' h u (eq_or_ne i j))
+    where_case i e m b g (at_part p j e' k x y g' h u t) = subst (Joinable rules (apply m e.right)) (sym t) (part_case i e m g p j e' k x y g' h u (cases_eq i j))
 
     root_case : (i : ℕ) (e : Equation) (m : ℕ → Tree) (s a b : Tree) → slice_get rules i ≡ Some e → s ≡ apply m e.left → a ≡ apply m e.right → Step rules s b → Joinable rules a b
     root_case i e m s a b g h k d = subst (λ z. Joinable rules z b) (sym k) (where_case i e m b g (inside m e.left b (subst (λ z. Step rules z b) h d)))

@@ -3,6 +3,7 @@ use Rattle.std.proofs.Common.{◌≡◌, ℕ, zero, suc, ◌<◌, ◌⊎◌, inl
 use Rattle.etp_theory.specs.Trees.{Tree, var, op}
 use Rattle.etp_theory.specs.Positions.{Side, to_left, to_right, sub_at}
 use Rattle.etp_theory.specs.FailingOverlaps.{PositionBefore, Place, PlaceBefore, by_outer, by_position, by_inner}
+use Rattle.etp_theory.proofs.Comparing.{equal_or_below}
 
 -- positions
 
@@ -93,21 +94,18 @@ total x y = outers (nat_total x.outer y.outer)
 
 -- the first at which something is found
 
-lt_suc : (k n : ℕ) → k < suc n → (k < n) ⊎ (k ≡ n)
-lt_suc k n h = grind arith
-
 -- the first number below `n` at which the second holds, where at each the first or the second does
 pub first_below : (n : ℕ) (P Q : ℕ → Type 0) → ((i : ℕ) → P i ⊎ Q i) → ((i : ℕ) → i < n → P i) ⊎ ((i : ℕ) × Q i × ((k : ℕ) → k < i → P k))
 first_below zero P Q each = inl (λ i h. absurd (omega (arith, h)))
 first_below (suc n) P Q each = go (first_below n P Q each) (each n)
   where
-    with_last : ((i : ℕ) → i < n → P i) → P n → (i : ℕ) → (i < n) ⊎ (i ≡ n) → P i
-    with_last all last i (inl l) = all i l
-    with_last all last i (inr e) = subst P (sym e) last
+    with_last : ((i : ℕ) → i < n → P i) → P n → (i : ℕ) → (i ≡ n) ⊎ (i < n) → P i
+    with_last all last i (inl e) = subst P (sym e) last
+    with_last all last i (inr l) = all i l
 
     go : ((i : ℕ) → i < n → P i) ⊎ ((i : ℕ) × Q i × ((k : ℕ) → k < i → P k)) → P n ⊎ Q n → ((i : ℕ) → i < suc n → P i) ⊎ ((i : ℕ) × Q i × ((k : ℕ) → k < i → P k))
     go (inr found) last = inr found
-    go (inl all) (inl last) = inl (λ i h. with_last all last i (lt_suc i n h))
+    go (inl all) (inl last) = inl (λ i h. with_last all last i (equal_or_below i n h))
     go (inl all) (inr found) = inr (n, found, all)
 
 no_part : (p : List Side) (v : ℕ) (x y : Tree) → sub_at p (var v) ≡ Some (op x y) → ⊥

@@ -1,14 +1,15 @@
 use Rattle.std.proofs.Common.{◌≡◌, ℕ, List, [], ◌∷◌, Some, slice_get, refl, ap, ◌∙◌}
+use Rattle.std.proofs.lemmas.Option.{same_Some}
 use Rattle.etp_theory.specs.Trees.{Tree, var, op, Equation}
 use Rattle.etp_theory.specs.Substitutions.{apply, then_apply}
 use Rattle.etp_theory.specs.Positions.{Side, to_left, to_right, sub_at, put_at}
 use Rattle.etp_theory.specs.Rewriting.{Step, at_root, in_left, in_right, StepAt, Steps, stop, more, Joinable}
-use Rattle.etp_theory.proofs.Trees.{composed, some-eq}
+use Rattle.etp_theory.proofs.Trees.{composed}
 
 module _ (rules : List Equation) where
   -- the two ways to say one rewriting agree
   pub step_of_at : (p : List Side) (i : ℕ) (e : Equation) (m : ℕ → Tree) (s : Tree) → slice_get rules i ≡ Some e → sub_at p s ≡ Some (apply m e.left) → Step rules s (put_at p s (apply m e.right))
-  step_of_at [] i e m s g h = at_root i e m g (some-eq h) refl
+  step_of_at [] i e m s g h = at_root i e m g (same_Some _ _ h) refl
   step_of_at (to_left ∷ p) i e m (var x) g h = absurd (cc)
   step_of_at (to_left ∷ p) i e m (op l r) g h = in_left r (step_of_at p i e m l g h)
   step_of_at (to_right ∷ p) i e m (var x) g h = absurd (cc)

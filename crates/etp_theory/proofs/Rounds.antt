@@ -3,6 +3,7 @@ use Rattle.std.proofs.Common.{◌≡◌, ℕ, zero, suc, ◌<◌, ◌≤◌, ◌
 use Rattle.etp_theory.specs.Trees.{Tree, var, op, bound, Occurs}
 use Rattle.etp_theory.specs.Substitutions.{apply}
 use Rattle.etp_theory.specs.Unifiers.{Difference, single, has, count_to, remaining}
+use Rattle.etp_theory.proofs.Comparing.{equal_or_below}
 use Rattle.etp_theory.proofs.Unifiers.{Facts, put, put_occurs, instance_occurs, occurs_bound}
 
 has_of : (v : ℕ) (t : Tree) → Occurs v t → has v t ≡ true
@@ -45,12 +46,9 @@ count_more : (n k : ℕ) (p : ℕ → Bool) → count_to n p ≤ count_to (n + k
 count_more n zero p = subst (λ m. count_to n p ≤ count_to m p) (let e : n ≡ n + 0 = omega arith in e) (omega arith)
 count_more n (suc k) p = subst (λ m. count_to n p ≤ count_to m p) (let e : suc (n + k) ≡ n + suc k = omega arith in e) (omega (arith, count_more n k p))
 
-lt_cases : (x n : ℕ) → x < suc n → (x ≡ n) ⊎ (x < n)
-lt_cases x n h = grind arith
-
 count_lt : (n x : ℕ) (p q : ℕ → Bool) → ((v : ℕ) → p v ≡ true → q v ≡ true) → x < n → p x ≡ false → q x ≡ true → count_to n p < count_to n q
 count_lt zero x p q h l a b = absurd (omega arith)
-count_lt (suc n) x p q h l a b = go (lt_cases x n l) (count_lt n x p q h)
+count_lt (suc n) x p q h l a b = go (equal_or_below x n l) (count_lt n x p q h)
   where
     go : (x ≡ n) ⊎ (x < n) → (x < n → p x ≡ false → q x ≡ true → count_to n p < count_to n q) → count_to (suc n) p < count_to (suc n) q
     go (inl e) i =

@@ -4,6 +4,7 @@ use Rattle.etp_theory.specs.Trees.{Tree, var, op, renamed, bound, dual, law_dual
 use Rattle.etp_theory.specs.Substitutions.{apply}
 use Rattle.etp_theory.specs.Sameness.{IsInjective, Same}
 use Rattle.etp_theory.specs.Derivations.{Concludes, by_law, symmetric as backwards, Derives}
+use Rattle.etp_theory.proofs.Comparing.{equal_or_below}
 use Rattle.etp_theory.proofs.Trees.{pair_eq}
 
 pub renamed_applied : (f : ℕ → ℕ) (t : Tree) → renamed f t ≡ apply (λ v. var (f v)) t
@@ -56,11 +57,8 @@ pub record Undoing (f : ℕ → ℕ) (n : ℕ) : Type 0 where
   pub injective : IsInjective by
   pub back : (v : ℕ) → v < n → by (f v) ≡ v
 
-eq_or_lt : (v n : ℕ) → v < suc n → (v ≡ n) ⊎ (v < n)
-eq_or_lt v n h = grind arith
-
 undone_more : (f : ℕ → ℕ) → IsInjective f → (n : ℕ) → (u : Undoing f n) → (v : ℕ) → v < suc n → swap (u.by (f n)) n (u.by (f v)) ≡ v
-undone_more f inj n u v h = go (eq_or_lt v n h)
+undone_more f inj n u v h = go (equal_or_below v n h)
   where
     apart : v < n → v ≢ u.by (f n)
     apart l q = let e : v ≡ n = inj v n (u.injective (f v) (f n) (u.back v l ∙ q)) in omega arith

@@ -1,4 +1,5 @@
 use Rattle.std.proofs.Common.{◌≡◌, ℕ, List, [], ◌∷◌, Some, refl, sym, ap, ap₂}
+use Rattle.std.proofs.lemmas.Option.{same_Some}
 use Rattle.etp_theory.specs.Trees.{Tree, var, op, dual, law_dual, Equation}
 use Rattle.etp_theory.specs.Substitutions.{apply, then_apply}
 use Rattle.etp_theory.specs.Positions.{Side, to_left, to_right, sub_at, put_at}
@@ -11,11 +12,8 @@ pub identity : (u : Tree) → apply var u ≡ u
 identity (var v) = refl
 identity (op l r) = ap₂ op (identity l) (identity r)
 
-pub some-eq : {a b : Tree} → Some a ≡ Some b → a ≡ b
-some-eq e = cc
-
 pub sub_at_applied : (p : List Side) (s : ℕ → Tree) (t u : Tree) → sub_at p t ≡ Some u → sub_at p (apply s t) ≡ Some (apply s u)
-sub_at_applied [] s t u e = ap (λ x. Some (apply s x)) (some-eq e)
+sub_at_applied [] s t u e = ap (λ x. Some (apply s x)) (same_Some _ _ e)
 sub_at_applied (to_left ∷ p) s (var v) u e = absurd (cc)
 sub_at_applied (to_left ∷ p) s (op l r) u e = sub_at_applied p s l u e
 sub_at_applied (to_right ∷ p) s (var v) u e = absurd (cc)
@@ -36,7 +34,7 @@ sub_at_put (to_right ∷ p) (var x) u v e = absurd (cc)
 sub_at_put (to_right ∷ p) (op l r) u v e = sub_at_put p r u v e
 
 pub put_at_sub : (p : List Side) (t u : Tree) → sub_at p t ≡ Some u → put_at p t u ≡ t
-put_at_sub [] t u e = sym (some-eq e)
+put_at_sub [] t u e = sym (same_Some _ _ e)
 put_at_sub (to_left ∷ p) (var x) u e = refl
 put_at_sub (to_left ∷ p) (op l r) u e = ap (λ x. op x r) (put_at_sub p l u e)
 put_at_sub (to_right ∷ p) (var x) u e = refl

@@ -1,10 +1,13 @@
 use Rattle.std.proofs.Common.{◌≡◌, ◌≢◌, ℕ, zero, suc, ◌<◌, ◌≤◌, max, ◌⊎◌, inl, inr, Bool, true, false, cond, eqb, ltb, List, [], ◌∷◌, length, Option, Some, None, refl, sym, ap, ap₂, ◌∙◌, subst, arith, eqb-true, eq-eqb, ne_eqb, le-ltb, ltb-false}
+use Rattle.std.proofs.lemmas.Bool.{cases_eq}
+use Rattle.std.proofs.lemmas.Option.{same_Some}
 use Rattle.etp_theory.specs.Trees.{Tree, var, op, ops, bound, Occurs}
 use Rattle.etp_theory.specs.Substitutions.{apply, then_apply, Partial, value_or, total}
 use Rattle.etp_theory.specs.Unifiers.{IsMostGeneral, IsMostGeneralPartial, IsBest, single, Difference, difference}
 use Rattle.etp_theory.specs.Strategy.{first_some}
 use Rattle.etp_theory.proofs.Trees.{composed}
 use Rattle.etp_theory.proofs.Matching.{apply_agree}
+use Rattle.etp_theory.proofs.Comparing.{equal_or_below}
 
 pub apply_same : (m n : ℕ → Tree) → ((v : ℕ) → m v ≡ n v) → (t : Tree) → apply m t ≡ apply n t
 apply_same m n h t = apply_agree m n t (λ v o. h v)
@@ -17,25 +20,19 @@ pub record Mgu (a b : Tree) : Type 0 where
   pub values : (v : ℕ) → (Occurs v a → ⊥) → (Occurs v b → ⊥) → by v ≡ var v
   pub variables : (v y : ℕ) → Occurs y (by v) → (y ≡ v) ⊎ (Occurs y a ⊎ Occurs y b)
 
-some_difference : {a b : Difference} → Some a ≡ Some b → a ≡ b
-some_difference e = cc
-
-pub eq_or_ne : (i j : ℕ) → (i ≡ j) ⊎ (i ≢ j)
-eq_or_ne i j = grind arith
-
 -- the variables of an instance
 pub instance_occurs : (m : ℕ → Tree) (y : ℕ) (t : Tree) → Occurs y (apply m t) → (z : ℕ) × Occurs z t × Occurs y (m z)
 instance_occurs m y (var x) o = (x, refl, o)
 instance_occurs m y (op a b) (inl o) = let r = instance_occurs m y a o in (r.0, inl r.1, r.2)
 instance_occurs m y (op a b) (inr o) = let r = instance_occurs m y b o in (r.0, inr r.1, r.2)
 
-single_at : (x : ℕ) (b : Tree) → single x b x ≡ b
+pub single_at : (x : ℕ) (b : Tree) → single x b x ≡ b
 single_at x b = ap (λ c. cond c b (var x)) (eq-eqb x x refl)
 
-single_other : (x : ℕ) (b : Tree) (v : ℕ) → (v ≡ x → ⊥) → single x b v ≡ var v
+pub single_other : (x : ℕ) (b : Tree) (v : ℕ) → (v ≡ x → ⊥) → single x b v ≡ var v
 single_other x b v h = ap (λ c. cond c b (var v)) (ne_eqb v x h)
 
-single_absorbed : (x : ℕ) (b : Tree) (n : ℕ → Tree) → n x ≡ apply n b → (v : ℕ) → apply n (single x b v) ≡ n v
+pub single_absorbed : (x : ℕ) (b : Tree) (n : ℕ → Tree) → n x ≡ apply n b → (v : ℕ) → apply n (single x b v) ≡ n v
 single_absorbed x b n e v = go (eqb v x) refl
   where
     go : (c : Bool) → eqb v x ≡ c → apply n (cond c b (var v)) ≡ n v
@@ -58,7 +55,7 @@ no_cycle : (n : ℕ → Tree) (x : ℕ) (c d : Tree) → n x ≡ apply n (op c d
 no_cycle n x c d e (inl o) = omega (arith, occurs_ops n x c o, ap ops e)
 no_cycle n x c d e (inr o) = omega (arith, occurs_ops n x d o, ap ops e)
 
-absorbed_term : (m n : ℕ → Tree) → ((v : ℕ) → apply n (m v) ≡ n v) → (t : Tree) → apply n (apply m t) ≡ apply n t
+pub absorbed_term : (m n : ℕ → Tree) → ((v : ℕ) → apply n (m v) ≡ n v) → (t : Tree) → apply n (apply m t) ≡ apply n t
 absorbed_term m n h t = composed m n t ∙ apply_same (then_apply m n) n h t
 
 pub through : (m k n : ℕ → Tree) → ((v : ℕ) → apply k (m v) ≡ n v) → (t : Tree) → apply k (apply m t) ≡ apply n t
@@ -102,9 +99,9 @@ difference_facts (var x) (var y) d h = go (eqb x y) refl h
   where
     go : (b : Bool) → eqb x y ≡ b → cond b None (Some (record { variable = x; value = var y })) ≡ Some d → Facts (var x) (var y) d
     go true e k = absurd (cc)
-    go false e k = subst (Facts (var x) (var y)) (some_difference k) (record { forced = λ n q. q; proper = λ q. (let z = eq-eqb x y (let r : y ≡ x = cc in sym r) in cc); there = inl refl; inside = λ v o. inr o })
-difference_facts (var x) (op a b) d h = subst (Facts (var x) (op a b)) (some_difference h) (record { forced = λ n q. q; proper = λ q. cc; there = inl refl; inside = λ v o. inr o })
-difference_facts (op a b) (var y) d h = subst (Facts (op a b) (var y)) (some_difference h) (record { forced = λ n q. sym q; proper = λ q. cc; there = inr refl; inside = λ v o. inl o })
+    go false e k = subst (Facts (var x) (var y)) (same_Some _ _ k) (record { forced = λ n q. q; proper = λ q. (let z = eq-eqb x y (let r : y ≡ x = cc in sym r) in cc); there = inl refl; inside = λ v o. inr o })
+difference_facts (var x) (op a b) d h = subst (Facts (var x) (op a b)) (same_Some _ _ h) (record { forced = λ n q. q; proper = λ q. cc; there = inl refl; inside = λ v o. inr o })
+difference_facts (op a b) (var y) d h = subst (Facts (op a b) (var y)) (same_Some _ _ h) (record { forced = λ n q. sym q; proper = λ q. cc; there = inr refl; inside = λ v o. inl o })
 difference_facts (op a b) (op c e) d h = go (difference a c) refl h (difference_facts a c) (difference_facts b e)
   where
     go : (o : Option Difference) → difference a c ≡ o → first_some o (difference b e) ≡ Some d → ((x : Difference) → difference a c ≡ Some x → Facts a c x) → ((x : Difference) → difference b e ≡ Some x → Facts b e x) → Facts (op a b) (op c e) d
@@ -243,7 +240,7 @@ single_inside xs x b hb h t ht v o = let r = instance_occurs (single x b) v t o 
     go z k false e o = without_in x v xs (ht v (subst (λ u. Occurs u t) o k)) (λ q. let f = eq-eqb z x (o ∙ q) in cc)
 
 pub occurs_dec : (x : ℕ) (t : Tree) → Occurs x t ⊎ (Occurs x t → ⊥)
-occurs_dec x (var y) = eq_or_ne y x
+occurs_dec x (var y) = cases_eq y x
 occurs_dec x (op a b) = go (occurs_dec x a) (occurs_dec x b)
   where
     go : Occurs x a ⊎ (Occurs x a → ⊥) → Occurs x b ⊎ (Occurs x b → ⊥) → Occurs x (op a b) ⊎ (Occurs x (op a b) → ⊥)
@@ -286,15 +283,12 @@ abbrev pub up_to : ℕ → List ℕ
 up_to zero = []
 up_to (suc n) = n ∷ up_to n
 
-lt_suc : (v n : ℕ) → v < suc n → (n ≡ v) ⊎ (v < n)
-lt_suc v n h = grind arith
-
 up_to_in : (n v : ℕ) → v < n → In v (up_to n)
 up_to_in zero v h = absurd (omega arith)
-up_to_in (suc n) v h = go (lt_suc v n h) (up_to_in n v)
+up_to_in (suc n) v h = go (equal_or_below v n h) (up_to_in n v)
   where
-    go : (n ≡ v) ⊎ (v < n) → (v < n → In v (up_to n)) → (n ≡ v) ⊎ In v (up_to n)
-    go (inl e) i = inl e
+    go : (v ≡ n) ⊎ (v < n) → (v < n → In v (up_to n)) → (n ≡ v) ⊎ In v (up_to n)
+    go (inl e) i = inl (sym e)
     go (inr l) i = inr (i l)
 
 pub occurs_bound : (v : ℕ) (t : Tree) → Occurs v t → v < bound t

@@ -4,6 +4,7 @@ use Rattle.etp_theory.specs.Trees.{Tree, var, op, bound, Equation}
 use Rattle.etp_theory.specs.Substitutions.{apply}
 use Rattle.etp_theory.specs.Rewriting.{Step, at_root, in_left, in_right}
 use Rattle.etp_theory.specs.Weights.{sum_to, Weight, coefficient, constant, weigh, IsDecreasing, AllDecrease}
+use Rattle.etp_theory.proofs.Comparing.{equal_or_below}
 
 sum_mono : (n : ℕ) (g h : ℕ → ℕ) → ((x : ℕ) → g x ≤ h x) → sum_to n g ≤ sum_to n h
 sum_mono zero g h e = omega arith
@@ -20,12 +21,9 @@ sum_none (suc n) v f h =
     let i = sum_none n v f (omega arith) in
     ap₂ (λ x b. x + cond b 1 0 * f n) i e ∙ omega arith
 
-eq_or_lt : (v n : ℕ) → v < suc n → (v ≡ n) ⊎ (v < n)
-eq_or_lt v n h = grind arith
-
 sum_one : (n v : ℕ) (f : ℕ → ℕ) → v < n → sum_to n (λ x. cond (eqb v x) 1 0 * f x) ≡ f v
 sum_one zero v f h = absurd (omega arith)
-sum_one (suc n) v f h = go (eq_or_lt v n h) (sum_one n v f)
+sum_one (suc n) v f h = go (equal_or_below v n h) (sum_one n v f)
   where
     go : (v ≡ n) ⊎ (v < n) → (v < n → sum_to n (λ x. cond (eqb v x) 1 0 * f x) ≡ f v) → sum_to (suc n) (λ x. cond (eqb v x) 1 0 * f x) ≡ f v
     go (inl e) i = ap₂ (λ x b. x + cond b 1 0 * f n) (sum_none n v f (omega arith)) (eq-eqb v n e) ∙ omega arith ∙ ap f (sym e)

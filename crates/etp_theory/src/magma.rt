@@ -20,10 +20,12 @@ pub trait Magma {
 
     /// What is derived from a law that holds holds too; the lemma `sound` of `specs/Sound.antt`
     /// gives it from `closed`.
-    ghost sound: { (m : Self) (e f : Equation) → Holds (inside m) (times m) e.left e.right → Derives e f → Holds (inside m) (times m) f.left f.right };
+    ghost sound: { (m : Self) (e f : Equation) → Holds (inside m) (times m) e.left e.right
+        → Derives e f → Holds (inside m) (times m) f.left f.right };
 }
 
 /// What is derived from a law that holds in the magma holds there too.
 pub fn keeps_derived<M: Magma>(magma: &M)
-    ensures { (e f : Equation) → Holds (M.inside magma.now) (M.times magma.now) e.left e.right → Derives e f → Holds (M.inside magma.now) (M.times magma.now) f.left f.right }
+    ensures { (e f : Equation) → Holds (M.inside magma.now) (M.times magma.now) e.left e.right
+        → Derives e f → Holds (M.inside magma.now) (M.times magma.now) f.left f.right }
 {}

@@ -2,13 +2,13 @@
 use Rattle.std.proofs.Common.{◌≡◌, ℕ, ◌⊎◌, inl, inr, ◌<◌, ◌≤◌, Bool, true, false, List, Some, None, sym, ap, ◌∙◌, subst, arith, get_or, min, length}
 use Rattle.std.proofs.Math.ListN.{set, replicate}
 use Rattle.std.proofs.lemmas.List.{get_or-set_same, get_or-set_other, get_or-replicate, get_or_past, length-replicate}
+use Rattle.std.proofs.lemmas.Bool.{cases_eq}
 use Rattle.etp_theory.specs.Trees.{Tree, var, op, leaves, Occurs}
 use Rattle.etp_theory.specs.Substitutions.{apply}
 use Rattle.etp_match.specs.Bindings.{partial_of}
 use Rattle.etp_match.specs.declared.subst.Binding.{Binding}
 use Rattle.etp_unify.specs.Triangular.{IsTriangular, solution}
 use Rattle.etp_unify.specs.Values.{AreWithout, counted, AreCounted}
-use Rattle.etp_unify.proofs.Singles.{same_or_not}
 use Rattle.etp_unify.proofs.Triangular.{weight, weight_op, weight_value, solution_resolved}
 
 pub lighter_left : (bindings : List Binding) (s a b : Tree) → s ≡ op a b → weight bindings a < weight bindings s
@@ -38,7 +38,7 @@ against x s t h k o = k (subst (Occurs x) h o)
 -- one more mark, and none
 
 pub marked_more : (bindings : List Binding) (x : ℕ) (marks : List Bool) (w : ℕ) → AreWithout bindings x marks → (Occurs x (solution bindings w) → ⊥) → AreWithout bindings x (set marks w true)
-marked_more bindings x marks w h k v m = go (same_or_not v w)
+marked_more bindings x marks w h k v m = go (cases_eq v w)
   where
     go : (v ≡ w) ⊎ (v ≡ w → ⊥) → Occurs x (solution bindings v) → ⊥
     go (inl e) = subst (λ u. Occurs x (solution bindings u) → ⊥) (sym e) k
@@ -69,7 +69,7 @@ pub counted_value : (bindings : List Binding) → IsTriangular bindings → (s t
 counted_value bindings h s t v k e = ap (λ u. min (leaves u) 4294967296) (sym (of_value bindings h s t v k e))
 
 pub counted_more : (bindings : List Binding) (known : List ℕ) (w n : ℕ) → AreCounted bindings known → n ≡ counted bindings (var w) → w < length known → AreCounted bindings (set known w n)
-counted_more bindings known w n h k l v m = go (same_or_not v w)
+counted_more bindings known w n h k l v m = go (cases_eq v w)
   where
     go : (v ≡ w) ⊎ (v ≡ w → ⊥) → get_or (set known w n) v 0 ≡ counted bindings (var v)
     go (inl e) =

@@ -1,8 +1,9 @@
 -- One difference after the other: what each value given keeps, and where no substitution is left.
 use Rattle.std.proofs.Common.{◌≡◌, ℕ, ◌⊎◌, inl, inr, ◌<◌, ◌↔◌, List, [], ◌∷◌, ◌++◌, map, Some, None, refl, sym, ap, ◌∙◌, subst, arith}
+use Rattle.std.proofs.lemmas.Bool.{cases_eq}
 use Rattle.etp_theory.specs.Trees.{Tree, var, op, Occurs}
 use Rattle.etp_theory.specs.Substitutions.{apply}
-use Rattle.etp_theory.proofs.Unifiers.{stuck, difference_facts}
+use Rattle.etp_theory.proofs.Unifiers.{stuck, difference_facts, absorbed_term}
 use Rattle.etp_term.specs.Terms.{tree_of}
 use Rattle.etp_term.specs.declared.term.Term.{Term}
 use Rattle.etp_match.specs.Bindings.{value_of, entry_of, partial_of}
@@ -11,7 +12,6 @@ use Rattle.etp_match.proofs.Extending.{map_after}
 use Rattle.etp_unify.specs.Triangular.{AreTriangular, IsTriangular, HasSmallVariables, solution}
 use Rattle.etp_unify.specs.Solving.{Respects, Equates, IsDifference}
 use Rattle.etp_unify.specs.declared.solving.Pair.{Pair}
-use Rattle.etp_unify.proofs.Singles.{same_or_not, absorbed_term}
 use Rattle.etp_unify.proofs.Triangular.{entry_at, entry_elsewhere, triangular_more, solution_resolved, solution_absorbed}
 use Rattle.etp_unify.proofs.Unbound.{unbound, fewer_unbound}
 
@@ -75,7 +75,7 @@ module _ (bindings : List Binding) (h : IsTriangular bindings) (before after : L
     earlier_respected n r v t e = r v t (value_elsewhere v (another v t e) ∙ e)
 
     later_respected : (n : ℕ → Tree) → Respects n (partial_of bindings) → n x ≡ apply n (tree_of term) → Respects n (partial_of more)
-    later_respected n r k v t e = go (same_or_not v x)
+    later_respected n r k v t e = go (cases_eq v x)
       where
         go : (v ≡ x) ⊎ (v ≡ x → ⊥) → n v ≡ apply n t
         go (inl q) =
@@ -94,7 +94,7 @@ module _ (bindings : List Binding) (h : IsTriangular bindings) (before after : L
         back u = let r = earlier_respected n u.0 in (r, (d.same n r).1 (u.0 x (tree_of term) value_here, u.1))
 
     none_before : (v : ℕ) → (partial_of more).value v ≡ None → (partial_of bindings).value v ≡ None
-    none_before v e = go (same_or_not v x)
+    none_before v e = go (cases_eq v x)
       where
         go : (v ≡ x) ⊎ (v ≡ x → ⊥) → (partial_of bindings).value v ≡ None
         go (inl q) = ap (partial_of bindings).value q ∙ d.free

@@ -1,16 +1,18 @@
 -- The substitution that values stand for, one after the other; and with twice each value put in, so
 -- that a variable is greater than its value.
 use Rattle.std.proofs.Common.{◌≡◌, ℕ, ◌⊎◌, inl, inr, ◌+◌, ◌<◌, Bool, false, cond, eqb, List, [], ◌∷◌, ◌++◌, map, Option, Some, None, refl, sym, ap, ap₂, ◌∙◌, subst, arith, eq-eqb, ne_eqb}
+use Rattle.std.proofs.lemmas.Bool.{cases_eq}
 use Rattle.etp_theory.specs.Trees.{Tree, var, op, ops, Occurs}
 use Rattle.etp_theory.specs.Substitutions.{apply, then_apply}
 use Rattle.etp_theory.specs.Unifiers.{single}
 use Rattle.etp_theory.specs.Strategy.{first_some}
 use Rattle.etp_theory.proofs.Trees.{composed}
+use Rattle.etp_theory.proofs.Unifiers.{instance_occurs, single_at, single_other, single_absorbed, absorbed_term}
 use Rattle.etp_match.specs.Bindings.{value_of, entry_of, partial_of}
 use Rattle.etp_match.specs.declared.subst.Binding.{Binding}
 use Rattle.etp_match.proofs.Extending.{value_after}
 use Rattle.etp_unify.specs.Triangular.{with_entry, with_entries, AreTriangular, IsTriangular, solution}
-use Rattle.etp_unify.proofs.Singles.{single_at, single_other, single_absorbed, single_variables, single_unused, same_or_not, of_instance, in_instance, absorbed_term}
+use Rattle.etp_unify.proofs.Singles.{single_variables, single_unused, in_instance}
 
 pub none_after : (xs : List (ℕ × Tree)) → xs ++ [] ≡ xs
 none_after [] = refl
@@ -83,7 +85,7 @@ module _ (frame : Tree → Tree) (f : IsFrame frame) where
     value_kept = sym (composed m (single x put) t) ∙ single_unused x put (apply m t) apart
 
     next_free : (v : ℕ) → more v ≡ None → next v ≡ var v
-    next_free v h = go (same_or_not v x)
+    next_free v h = go (cases_eq v x)
       where
         go : (v ≡ x) ⊎ (v ≡ x → ⊥) → next v ≡ var v
         go (inl q) = let e : Some t ≡ None = sym at ∙ subst (λ w. more w ≡ None) q h in absurd (cc)
@@ -93,7 +95,7 @@ module _ (frame : Tree → Tree) (f : IsFrame frame) where
     next_at = ap (apply (single x put)) fresh ∙ single_at x put
 
     next_bound : (v : ℕ) (u : Tree) → more v ≡ Some u → next v ≡ frame (apply next u)
-    next_bound v u h = go (same_or_not v x)
+    next_bound v u h = go (cases_eq v x)
       where
         go : (v ≡ x) ⊎ (v ≡ x → ⊥) → next v ≡ frame (apply next u)
         go (inl q) =
@@ -106,14 +108,14 @@ module _ (frame : Tree → Tree) (f : IsFrame frame) where
             ∙ ap frame (composed m (single x put) u)
 
     next_gone : (v : ℕ) (u : Tree) → more v ≡ Some u → (w : ℕ) → Occurs v (next w) → ⊥
-    next_gone v u h w o = let i = of_instance (single x put) v (m w) o in go i.0 i.1 (single_variables x put i.0 v i.2)
+    next_gone v u h w o = let i = instance_occurs (single x put) v (m w) o in go i.0 i.1 (single_variables x put i.0 v i.2)
       where
         in_value : Occurs v put → (v ≡ x) ⊎ (v ≡ x → ⊥) → ⊥
         in_value k (inl q) = put_apart (subst (λ z. Occurs z put) q k)
-        in_value k (inr q) = let i = of_instance m v t (f.inside v (apply m t) k) in r.gone v u (sym (elsewhere v q) ∙ h) i.0 i.2
+        in_value k (inr q) = let i = instance_occurs m v t (f.inside v (apply m t) k) in r.gone v u (sym (elsewhere v q) ∙ h) i.0 i.2
 
         go : (z : ℕ) → Occurs z (m w) → ((z ≡ x) × Occurs v put) ⊎ ((z ≡ x → ⊥) × (z ≡ v)) → ⊥
-        go z k (inl q) = in_value q.1 (same_or_not v x)
+        go z k (inl q) = in_value q.1 (cases_eq v x)
         go z k (inr q) = r.gone v u (sym (elsewhere v (λ e. q.0 (q.1 ∙ e))) ∙ h) w (subst (λ y. Occurs y (m w)) q.1 k)
 
     pub one_more : IsResolved more next
@@ -160,11 +162,11 @@ abbrev pub AreAmong : (ℕ → Tree) → (ℕ → Tree) → Type 0
 AreAmong m k = (w y : ℕ) → Occurs y (m w) → Occurs y (k w)
 
 among_instances : (m k : ℕ → Tree) → AreAmong m k → (t : Tree) (y : ℕ) → Occurs y (apply m t) → Occurs y (apply k t)
-among_instances m k h t y o = let i = of_instance m y t o in in_instance k y i.0 t i.1 (h i.0 y i.2)
+among_instances m k h t y o = let i = instance_occurs m y t o in in_instance k y i.0 t i.1 (h i.0 y i.2)
 
 among_next : (a b : Tree → Tree) (f : IsFrame a) (g : IsFrame b) (m k : ℕ → Tree) (x : ℕ) (t : Tree) → AreAmong m k → AreAmong (put_entry a f m (x, t)) (put_entry b g k (x, t))
 among_next a b f g m k x t h w y o =
-    let i = of_instance (single x (a (apply m t))) y (m w) o in
+    let i = instance_occurs (single x (a (apply m t))) y (m w) o in
     in_instance (single x (b (apply k t))) y i.0 (k w) (h w i.0 i.1) (go i.0 (single_variables x (a (apply m t)) i.0 y i.2))
   where
     go : (z : ℕ) → ((z ≡ x) × Occurs y (a (apply m t))) ⊎ ((z ≡ x → ⊥) × (z ≡ y)) → Occurs y (single x (b (apply k t)) z)

@@ -2,6 +2,7 @@
 use Rattle.std.proofs.Common.{◌≡◌, ℕ, zero, suc, ◌⊎◌, inl, inr, ◌+◌, ◌<◌, ◌≤◌, Option, Some, None, refl, sym, ap, ◌∙◌, subst, arith}
 use Rattle.etp_theory.specs.Trees.{Tree}
 use Rattle.etp_theory.specs.Substitutions.{Partial}
+use Rattle.etp_theory.proofs.Comparing.{equal_or_below}
 
 one_if_none : Option Tree → ℕ
 one_if_none None = 1
@@ -24,9 +25,6 @@ unfolding count_below
 count_le zero f g h = omega arith
 count_le (suc n) f g h = omega (arith, count_le n f g h, less_or_same (f n) (g n) (h n))
 
-last_or_below : (x n : ℕ) → x < suc n → (n ≡ x) ⊎ (x < n)
-last_or_below x n h = grind arith
-
 none_at : (f : Option Tree) → f ≡ None → one_if_none f ≡ 1
 unfolding one_if_none
 none_at f h = ap one_if_none h
@@ -38,10 +36,10 @@ some_at f t h = ap one_if_none h
 count_lt : (n x : ℕ) (t : Tree) (f g : ℕ → Option Tree) → ((v : ℕ) → f v ≡ None → g v ≡ None) → x < n → f x ≡ Some t → g x ≡ None → count_below n f < count_below n g
 unfolding count_below
 count_lt zero x t f g h l a b = absurd (omega arith)
-count_lt (suc n) x t f g h l a b = go (last_or_below x n l) (count_lt n x t f g h)
+count_lt (suc n) x t f g h l a b = go (equal_or_below x n l) (count_lt n x t f g h)
   where
-    go : (n ≡ x) ⊎ (x < n) → (x < n → f x ≡ Some t → g x ≡ None → count_below n f < count_below n g) → count_below n f + one_if_none (f n) < count_below n g + one_if_none (g n)
-    go (inl e) k = omega (arith, count_le n f g h, some_at (f n) t (ap f e ∙ a), none_at (g n) (ap g e ∙ b))
+    go : (x ≡ n) ⊎ (x < n) → (x < n → f x ≡ Some t → g x ≡ None → count_below n f < count_below n g) → count_below n f + one_if_none (f n) < count_below n g + one_if_none (g n)
+    go (inl e) k = omega (arith, count_le n f g h, some_at (f n) t (ap f (sym e) ∙ a), none_at (g n) (ap g (sym e) ∙ b))
     go (inr e) k = omega (arith, k e a b, less_or_same (f n) (g n) (h n))
 
 pub fewer_unbound : (earlier later : Partial) (x : ℕ) (t : Tree) → ((v : ℕ) → later.value v ≡ None → earlier.value v ≡ None) → x < 256 → later.value x ≡ Some t → earlier.value x ≡ None → unbound later < unbound earlier

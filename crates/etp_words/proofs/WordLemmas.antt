@@ -3,6 +3,7 @@ use Rattle.std.proofs.Common.{◌≡◌, ℕ, zero, suc, ◌+◌, ◌≤◌, ◌
 use Rattle.std.proofs.lemmas.List.{take-append-drop, length-take, get_or-take}
 use Rattle.std.proofs.Math.Seq.{drop-cons, drop-length}
 use Rattle.std.proofs.Math.Nat.{pow-suc}
+use Rattle.std.proofs.lemmas.Bool.{true≢false, not-false}
 use Rattle.etp_io.specs.Texts.{begin_first}
 use Rattle.etp_words.specs.Words.{is_blank, goes_on, words_of, skip_word}
 
@@ -55,10 +56,7 @@ words_of-cut line n in_line some each stops =
 -- a blank ends the word at the front
 pub words_of-until : (line : List ℕ) (n : ℕ) → n < length line → goes_on line ≡ true → ((k : ℕ) → k < n → is_blank (get_or line k 0) ≡ false) → is_blank (get_or line n 0) ≡ true
     → words_of line ≡ take n line ∷ words_of (drop n line)
-words_of-until line zero in_line begins each blank = absurd (true_is_false (sym blank ∙ first-on line begins))
-  where
-    true_is_false : true ≡ false → ⊥
-    true_is_false e = cc
+words_of-until line zero in_line begins each blank = absurd (true≢false (sym blank ∙ first-on line begins))
 words_of-until line (suc n) in_line begins each blank =
     words_of-cut line (suc n) (omega arith) (omega arith) each (rw (drop-cons line (suc n) 0 in_line, blank) refl)
 
@@ -69,11 +67,7 @@ words_of-all line some each = words_of-cut line (length line) (omega arith) some
 
 not_on : (line : List ℕ) → goes_on line ≡ false → skip_word line ≡ line
 not_on [] e = refl
-not_on (b ∷ bytes) e = rw (blank (is_blank b) e) refl
-  where
-    blank : (v : Bool) → not v ≡ false → v ≡ true
-    blank true h = refl
-    blank false h = cc
+not_on (b ∷ bytes) e = rw (not-false (is_blank b) e) refl
 
 -- the word at the front is what stands before the first blank
 skip_word-cut : (line : List ℕ) (n : ℕ) → n ≤ length line → ((k : ℕ) → k < n → is_blank (get_or line k 0) ≡ false) → goes_on (drop n line) ≡ false → drop n line ≡ skip_word line

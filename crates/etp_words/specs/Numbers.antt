@@ -14,7 +14,9 @@ value_after high (d ∷ digits) = value_after (high * 10 + (d - 48)) digits
 
 -- one to ten decimal digits, with a value below 2^32
 abbrev pub is_number : List ℕ → Bool
-is_number word = list_all is_digit word && nat_le 1 (length word) && nat_le (length word) 10 && nat_le (value_after 0 word) 4294967295
+is_number word =
+    list_all is_digit word && nat_le 1 (length word) && nat_le (length word) 10
+    && nat_le (value_after 0 word) 4294967295
 
 -- the number that the word is
 abbrev pub number_said : List ℕ → Option ℕ

@@ -20,7 +20,9 @@ goes_on (b ∷ bytes) = not (is_blank b)
 -- the longest runs of bytes that are no blanks
 abbrev pub words_of : List ℕ → List (List ℕ)
 words_of [] = []
-words_of (b ∷ bytes) = if is_blank b then words_of bytes else (if goes_on bytes then begin_first b (words_of bytes) else (b ∷ []) ∷ words_of bytes)
+words_of (b ∷ bytes) =
+    if is_blank b then words_of bytes else
+    (if goes_on bytes then begin_first b (words_of bytes) else (b ∷ []) ∷ words_of bytes)
 
 -- without the bytes at its front that are no blanks
 abbrev pub skip_word : List ℕ → List ℕ

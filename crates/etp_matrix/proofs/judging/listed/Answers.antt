@@ -1,6 +1,6 @@
 use Rattle.std.proofs.Common.{◌≡◌, ◌⊎◌, sym, subst}
 use Rattle.etp_term.specs.Laws.{equation_of}
-use Rattle.etp_matrix.proofs.Judged.{listed_small}
+use Rattle.etp_laws.proofs.SmallLaws.{listed_small}
 use Rattle.etp_matrix.proofs.judging.listed.Goals as goal
 
 pub returns-clause-left_variables : goal.returns-clause-left_variables

@@ -5,7 +5,7 @@ use Rattle.etp_text.proofs.Answering.{read_length, skip_length, only_blanks, sto
 use Rattle.etp_text.proofs.read.read_text.Goals as goal
 
 pub place_of-requires-clause-within : goal.place_of-requires-clause-within
-place_of-requires-clause-within c = read_length c.args.laws c.args.bytes.now c.loop-next.rest.now (state_of c.loop-next.reading) c.loop-next.invariant
+place_of-requires-clause-within c = read_length c.args.grammar c.args.bytes.now c.loop-next.rest.now (state_of c.loop-next.reading) c.loop-next.invariant
 
 pub returns-then-is_empty : goal.returns-then-is_empty
 returns-then-is_empty c =
@@ -13,17 +13,17 @@ returns-then-is_empty c =
 
 pub place_of-at-requires-clause-within : goal.place_of-at-requires-clause-within
 place_of-at-requires-clause-within c =
-    omega (arith, read_length c.args.laws c.args.bytes.now c.loop-next.rest.now (state_of c.loop-next.reading) c.loop-next.invariant, skip_length c.loop-next.rest.now, ap length c.skip_blanks-next.ensures.value)
+    omega (arith, read_length c.args.grammar c.args.bytes.now c.loop-next.rest.now (state_of c.loop-next.reading) c.loop-next.invariant, skip_length c.loop-next.rest.now, ap length c.skip_blanks-next.ensures.value)
 
 pub returns-in_default : goal.returns-in_default
 returns-in_default c =
-    stops_at_byte c.args.laws c.args.bytes.now c.loop-next.rest.now c.skip_blanks-next.result.now (state_of c.loop-next.reading) c.place_of-at.result
+    stops_at_byte c.args.grammar c.args.bytes.now c.loop-next.rest.now c.skip_blanks-next.result.now (state_of c.loop-next.reading) c.place_of-at.result
     c.loop-next.invariant c.skip_blanks-next.ensures.value (false-eqb (length c.skip_blanks-next.result.now) 0 (sym c.if-is_empty.false ∙ c.is_empty.ensures)) c.place_of-at.ensures (sym c.in_default.ensures)
 
 pub returns-in_err-advance : goal.returns-in_err-advance
 returns-in_err-advance c =
     let p = err_from_is_err_and c.from_residual.result c.from_residual.ensures.1 in
-    rw (p.1, p.2) (stops_at_token c.args.laws c.args.bytes.now c.loop-next.rest.now c.skip_blanks-next.result.now c.in-Some.behind.now c.in-Some.token (state_of c.loop-next.reading) (state_of c.advance.new.self) c.place_of-at.result c.in_err-advance.field-0.0
+    rw (p.1, p.2) (stops_at_token c.args.grammar c.args.bytes.now c.loop-next.rest.now c.skip_blanks-next.result.now c.in-Some.behind.now c.in-Some.token (state_of c.loop-next.reading) (state_of c.advance.new.self) c.place_of-at.result c.in_err-advance.field-0.0
     c.loop-next.invariant c.skip_blanks-next.ensures.value c.place_of-at.ensures (sym c.in-Some.ensures) c.in_err-advance.ensures)
 
 pub loop-next-smaller : goal.loop-next-smaller
@@ -31,5 +31,5 @@ loop-next-smaller c = goes_down c.loop-next.rest.now c.skip_blanks-next.result.n
 
 pub loop-next-preserved : goal.loop-next-preserved
 loop-next-preserved c =
-    goes_on c.args.laws c.args.bytes.now c.loop-next.rest.now c.skip_blanks-next.result.now c.in-Some.behind.now c.in-Some.token (state_of c.loop-next.reading) (state_of c.advance.new.self)
+    goes_on c.args.grammar c.args.bytes.now c.loop-next.rest.now c.skip_blanks-next.result.now c.in-Some.behind.now c.in-Some.token (state_of c.loop-next.reading) (state_of c.advance.new.self)
     c.loop-next.invariant c.skip_blanks-next.ensures.value (sym c.in-Some.ensures) c.in_ok-advance.ensures

@@ -1,7 +1,8 @@
 use Rattle.std.proofs.lemmas.List.Elements.{All-more}
+use Rattle.etp_laws.proofs.NumberLists.{all_taken}
 use Rattle.etp_matrix.specs.Linears.{magma_of}
 use Rattle.etp_matrix.specs.Judgements.{LawFails}
-use Rattle.etp_matrix.proofs.Judged.{fails_by, all_taken}
+use Rattle.etp_matrix.proofs.Judged.{fails_by}
 use Rattle.etp_matrix.proofs.matrix_linear.MatrixLinear.check_fails.Goals as goal
 
 pub loop-number-preserved : goal.loop-number-preserved

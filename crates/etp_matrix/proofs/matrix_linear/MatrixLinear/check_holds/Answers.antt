@@ -1,7 +1,7 @@
 use Rattle.std.proofs.lemmas.List.Elements.{All-more}
+use Rattle.etp_laws.proofs.NumberLists.{all_taken}
 use Rattle.etp_matrix.specs.Linears.{magma_of}
 use Rattle.etp_matrix.specs.Judgements.{LawHolds}
-use Rattle.etp_matrix.proofs.Judged.{all_taken}
 use Rattle.etp_matrix.proofs.matrix_linear.MatrixLinear.check_holds.Goals as goal
 
 pub loop-number-preserved : goal.loop-number-preserved
