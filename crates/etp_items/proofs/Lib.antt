@@ -1,9 +1,3 @@
-pub mod SideLemmas
-pub mod OneProofLine
-pub mod OneClaimLine
-pub mod OneTableLine
-pub mod OneLinearLine
-pub mod OneLine
 pub mod OneProof
 pub mod OneModel
 pub mod OneBody
@@ -14,6 +8,7 @@ pub mod TermTexts
 pub mod TextLines
 pub mod ProofLineBack
 pub mod ProofReads
+pub mod MatrixText
 pub mod ModelReads
 pub mod ModelListed
 pub mod WrittenReads
@@ -24,6 +19,8 @@ pub mod Writable
 pub mod ShortLines
 pub mod ReadAgain
 pub mod NumberLemmas
+pub mod MatrixRows
+pub mod MatrixLemmas
 pub mod ModelLemmas
 pub mod ReaderLemmas
 pub mod Theorems

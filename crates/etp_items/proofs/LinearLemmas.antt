@@ -10,7 +10,7 @@ use Rattle.etp_words.specs.Numbers.{is_digit, number_said}
 use Rattle.etp_linear.specs.Magmas.{LinearMagma}
 use Rattle.etp_linear.specs.declared.parts.Ring.{Ring}
 use Rattle.etp_linear.specs.declared.parts.Ring.TheVariants.{Integers, Modulo}
-use Rattle.etp_items.specs.LinearLines.{integer_of, BeginsRing, SaysLinear}
+use Rattle.etp_lines.specs.LinearLines.{integer_of, BeginsRing, SaysLinear}
 use Rattle.etp_items.specs.Bodies.{linear}
 use Rattle.etp_items.specs.Written.{spaced, ring_words, written_linear, model_text, IsWritableLinear}
 use Rattle.etp_items.proofs.ReadBack.{both, joined, is_text, graph_text, IsWord, words_front, words_last, decimal_digits, decimal_number, decimal_word}

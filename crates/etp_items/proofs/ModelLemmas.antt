@@ -5,21 +5,22 @@ use Rattle.std.specs.List.{concat}
 use Rattle.std.proofs.lemmas.Bool.{le-leb, lt-ltb, eq-eqb}
 use Rattle.std.proofs.lemmas.List.Folds.{concat-append}
 use Rattle.std.proofs.lemmas.List.Elements.{All-push}
-use Rattle.etp_items.specs.TableLines.{TableLine, table, row, after_in_table}
-use Rattle.etp_items.specs.Claims.{ClaimLine, holds, fails, ClaimPlace, failing, first_claim, after_claim}
-use Rattle.etp_items.specs.BodyLines as Lines
-use Rattle.etp_items.specs.BodyLines.{Line, of_proofs, of_tables, of_linear, of_claims, Head, opened_head, next_head, BeginsNoProof, Place, opening, in_head, in_claims, table_line, claim_line, after_opening, after_head, after, is_told, is_complete}
+use Rattle.etp_lines.specs.TableLines.{TableLine, table, row, after_in_table}
+use Rattle.etp_lines.specs.Claims.{ClaimLine, holds, fails, ClaimPlace, failing, first_claim, after_claim}
+use Rattle.etp_lines.specs.BodyLines as Lines
+use Rattle.etp_lines.specs.BodyLines.{Line, of_proofs, of_tables, of_linear, of_matrices, of_claims, Head, opened_head, next_head, BeginsNoProof, Place, opening, in_head, in_claims, table_line, claim_line, after_opening, after_head, after, is_told, is_complete}
 use Rattle.etp_items.specs.Bodies.{model, claims_of}
 use Rattle.etp_items.specs.Reading.{SaysModel}
-use Rattle.etp_items.specs.Work.{HasRows, OpensTable, rows_place, TakesRow, claim_at, TakesInTable, HasHead, OpensHead, TakesInHead, is_told_by, told_by, claim_place, OpensClaims, TakesInClaims, HasModel, HasCome, Takes, IsWhole}
+use Rattle.etp_items.specs.Work.{HasRows, OpensTable, rows_place, TakesRow, matrix_said, claim_at, TakesInTable, HasHead, OpensHead, TakesInHead, is_told_by, told_by, claim_place, OpensClaims, TakesInClaims, HasModel, HasCome, Takes, IsWhole}
 use Rattle.etp_items.specs.declared.table.work.TableWork.{TableWork}
 use Rattle.etp_items.specs.declared.claims.work.ClaimsWork.{ClaimsWork}
-use Rattle.etp_items.specs.declared.linear.lines.LinearLine.{LinearLine}
+use Rattle.etp_lines.specs.declared.linear.LinearLine.{LinearLine}
 use Rattle.etp_items.specs.declared.magma.MagmaWork.{MagmaWork}
-use Rattle.etp_items.specs.declared.magma.MagmaWork.TheVariants.{Table, Linear}
+use Rattle.etp_items.specs.declared.magma.MagmaWork.TheVariants.{Table, Linear, Matrix}
 use Rattle.etp_items.specs.declared.model.ModelWork.{ModelWork}
 use Rattle.etp_items.specs.declared.work.Work.{Work}
 use Rattle.etp_items.specs.declared.work.Work.TheVariants.{Opening, Model}
+use Rattle.etp_items.proofs.MatrixLemmas.{matrix_says}
 
 map_end : {A B : Type 0} (f : A → B) (xs : List A) (x : A) → map f (xs ++ x ∷ []) ≡ map f xs ++ f x ∷ []
 map_end f [] x = refl
@@ -166,6 +167,7 @@ pub table_keeps : (w : TableWork) (said : Line) → IsNoTableLine said → Takes
 table_keeps w (of_proofs, said) none head saids h = ap (λ (z : Head). next_head z (of_proofs, said)) h.2
 table_keeps w (of_tables, said) none head saids h = absurd none
 table_keeps w (of_linear, said) none head saids h = ap (λ (z : Head). next_head z (of_linear, said)) h.2
+table_keeps w (of_matrices, said) none head saids h = ap (λ (z : Head). next_head z (of_matrices, said)) h.2
 table_keeps w (of_claims, said) none head saids h = ap (λ (z : Head). next_head z (of_claims, said)) h.2
 
 -- one line tells a linear magma
@@ -176,11 +178,13 @@ linear_keeps l said head saids h = ap (λ (z : Head). next_head z said) h.0
 told_as : (m : MagmaWork) (head : Head) (saids : List Line) → HasHead m head saids → is_told head ≡ is_told_by m
 told_as (Table w) head saids (rows, h, p, s) = ap is_told p ∙ ap (λ n. nat_eq n w.size) (sym h.count_is)
 told_as (Linear l) head saids h = ap is_told h.0
+told_as (Matrix w) head saids (a, b, c, h, p, s) = ap is_told p
 
 -- the lines of a magma that is told tell it
-told_says : (m : MagmaWork) (head : Head) (saids : List Line) → HasHead m head saids → SaysModel saids (told_by m)
-told_says (Table w) head saids (rows, h, p, s) = (table w.size ∷ map row rows, s, record { rows = rows; whole = refl; entries_are = h.entries_are })
-told_says (Linear l) head saids h = h.1
+told_says : (m : MagmaWork) (head : Head) (saids : List Line) → HasHead m head saids → is_told head ≡ true → SaysModel saids (told_by m)
+told_says (Table w) head saids (rows, h, p, s) told = (table w.size ∷ map row rows, s, record { rows = rows; whole = refl; entries_are = h.entries_are })
+told_says (Linear l) head saids h told = h.1
+told_says (Matrix w) head saids (a, b, c, h, p, s) told = (matrix_said w a b c, s, matrix_says w a b c h (sym (ap is_told p) ∙ told))
 
 -- a line that is none of claims
 abbrev pub IsNoClaim : Line → Type 0
@@ -191,12 +195,14 @@ after_told : (head : Head) (said : Line) → IsNoClaim said → after_head head 
 after_told head (of_proofs, said) none = refl
 after_told head (of_tables, said) none = refl
 after_told head (of_linear, said) none = refl
+after_told head (of_matrices, said) none = refl
 after_told head (of_claims, said) none = absurd none
 
 after_claims : (place : ClaimPlace) (said : Line) → IsNoClaim said → after (in_claims place) said ≡ None
 after_claims place (of_proofs, said) none = refl
 after_claims place (of_tables, said) none = refl
 after_claims place (of_linear, said) none = refl
+after_claims place (of_matrices, said) none = refl
 after_claims place (of_claims, said) none = absurd none
 
 -- the work goes on as its magma does
@@ -284,6 +290,7 @@ after_first : (said : Line) → BeginsNoProof said → after_opening said ≡ op
 after_first (of_proofs, said) none = absurd none
 after_first (of_tables, said) none = refl
 after_first (of_linear, said) none = refl
+after_first (of_matrices, said) none = refl
 after_first (of_claims, said) none = refl
 
 pub magma_opens : (old : Work) (said : Line) (w : MagmaWork) → old ≡ Opening → BeginsNoProof said → OpensHead said (Some w) → Takes old said (Model (record { magma = w; claims = None })) true
@@ -315,7 +322,7 @@ model_whole w c e set = λ place saids h.
         head = k.1;
         behind = k.2;
         whole = k.7;
-        says_model = told_says w.magma k.0 k.1 k.3;
+        says_model = told_says w.magma k.0 k.1 k.3 k.5;
         says_claims = k.4.says;
       },
     )

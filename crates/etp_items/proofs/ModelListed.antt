@@ -4,13 +4,14 @@ use Rattle.std.specs.List.{concat, AllByRecursion}
 use Rattle.std.proofs.lemmas.List.Elements.{All-nil, All-cons, All-append, All-take, All-drop, All-head, All-tail}
 use Rattle.etp_theory.specs.LawNumbers.{IsLaw}
 use Rattle.etp_reading.specs.Reading.{AreListed}
-use Rattle.etp_items.specs.TableLines.{TableLine, table, row}
-use Rattle.etp_items.specs.Claims.{ClaimLine, holds, fails, Claims}
-use Rattle.etp_items.specs.BodyLines.{Line, table_line, linear_line, claim_line, numbers_of, bodies}
+use Rattle.etp_lines.specs.TableLines.{TableLine, table, row}
+use Rattle.etp_lines.specs.MatrixLines.{MatrixLine}
+use Rattle.etp_lines.specs.Claims.{ClaimLine, holds, fails, Claims}
+use Rattle.etp_lines.specs.BodyLines.{Line, table_line, linear_line, matrix_line, claim_line, numbers_of, bodies}
 use Rattle.etp_items.specs.Bodies as Bodies
 use Rattle.etp_items.specs.Bodies.{Model}
 use Rattle.etp_items.specs.Reading.{SaysModel, SaysClaimed}
-use Rattle.etp_items.specs.Written.{pieces, cut, claim_lines}
+use Rattle.etp_items.specs.Written.{pieces, cut, matrix_lines, claim_lines}
 use Rattle.etp_items.proofs.ModelReads.{head_lines, model_lines}
 
 -- the law numbers of a line are listed
@@ -21,9 +22,14 @@ tables_past : (count : ℕ) (ts : List TableLine) (ls : List Line) → AreListed
 tables_past count [] ls h = h
 tables_past count (t ∷ ts) ls h = tables_past count ts ls (All-tail (HasListed count) (table_line t) (map table_line ts ++ ls) h)
 
+matrices_past : (count : ℕ) (ms : List MatrixLine) (ls : List Line) → AreListed bodies count (map matrix_line ms ++ ls) → AreListed bodies count ls
+matrices_past count [] ls h = h
+matrices_past count (m ∷ ms) ls h = matrices_past count ms ls (All-tail (HasListed count) (matrix_line m) (map matrix_line ms ++ ls) h)
+
 -- the lines of a magma have no law numbers
 head_past : (count : ℕ) (head : List Line) (m : Model) (ls : List Line) → SaysModel head m → AreListed bodies count (head ++ ls) → AreListed bodies count ls
 head_past count head (Bodies.table size entries) ls (lines, e, s) h = tables_past count lines ls (subst (λ (z : List Line). AreListed bodies count (z ++ ls)) e h)
+head_past count head (Bodies.matrix g) ls (lines, e, s) h = matrices_past count lines ls (subst (λ (z : List Line). AreListed bodies count (z ++ ls)) e h)
 head_past count head (Bodies.linear l) ls e h = All-tail (HasListed count) (linear_line l) ls (subst (λ (z : List Line). AreListed bodies count (z ++ ls)) e h)
 
 held_listed : (count : ℕ) (hs : List (List ℕ)) (rest : List ClaimLine) → AreListed bodies count (map claim_line (map holds hs ++ rest)) → All (IsLaw count) (concat hs) × AreListed bodies count (map claim_line rest)
@@ -64,8 +70,13 @@ tables_back : (count : ℕ) (ts : List TableLine) (ls : List Line) → AreListed
 tables_back count [] ls h = h
 tables_back count (t ∷ ts) ls h = All-cons (HasListed count) (table_line t) (map table_line ts ++ ls) (All-nil (IsLaw count)) (tables_back count ts ls h)
 
+matrices_back : (count : ℕ) (ms : List MatrixLine) (ls : List Line) → AreListed bodies count ls → AreListed bodies count (map matrix_line ms ++ ls)
+matrices_back count [] ls h = h
+matrices_back count (m ∷ ms) ls h = All-cons (HasListed count) (matrix_line m) (map matrix_line ms ++ ls) (All-nil (IsLaw count)) (matrices_back count ms ls h)
+
 head_back : (count : ℕ) (m : Model) (ls : List Line) → AreListed bodies count ls → AreListed bodies count (head_lines m ++ ls)
 head_back count (Bodies.table size entries) ls h = tables_back count (table size ∷ map row (cut size entries)) ls h
+head_back count (Bodies.matrix g) ls h = matrices_back count (matrix_lines g) ls h
 head_back count (Bodies.linear l) ls h = All-cons (HasListed count) (linear_line l) ls (All-nil (IsLaw count)) h
 
 front_of : (count : ℕ) (xs ys : List ℕ) → All (IsLaw count) (xs ++ ys) → All (IsLaw count) xs × All (IsLaw count) ys

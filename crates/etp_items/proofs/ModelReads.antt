@@ -8,17 +8,23 @@ use Rattle.std.proofs.lemmas.Fmt.{length-decimal-le}
 use Rattle.etp_io.specs.Texts.{LineText, lines_of}
 use Rattle.etp_words.specs.Words.{words_of}
 use Rattle.etp_reading.specs.Reading.{Reads, AreWhole}
-use Rattle.etp_items.specs.TableLines.{table, row}
-use Rattle.etp_items.specs.Claims.{ClaimLine, holds, fails, holding, failing, Claims, numbers_said, SaysNumbers}
-use Rattle.etp_items.specs.BodyLines as Lines
-use Rattle.etp_items.specs.BodyLines.{Line, of_proofs, of_tables, of_linear, of_claims, Head, is_told, Place, opening, in_head, in_claims, table_line, linear_line, claim_line, Says, after, after_opening, bodies}
+use Rattle.etp_matrix.specs.declared.parts.Part.{Part}
+use Rattle.etp_matrix.specs.declared.parts.Part.TheVariants.{A, B, C}
+use Rattle.etp_lines.specs.TableLines.{table, row}
+use Rattle.etp_lines.specs.MatrixLines as Matrices
+use Rattle.etp_lines.specs.MatrixLines.{part_word, awaits, rows_of}
+use Rattle.etp_lines.specs.Claims.{ClaimLine, holds, fails, holding, failing, Claims, numbers_said, SaysNumbers}
+use Rattle.etp_lines.specs.BodyLines as Lines
+use Rattle.etp_lines.specs.BodyLines.{Line, of_proofs, of_tables, of_linear, of_matrices, of_claims, Head, is_told, Place, opening, in_head, in_claims, table_line, linear_line, matrix_line, claim_line, Says, after, after_opening, bodies}
+use Rattle.etp_matrix.specs.Magmas.{MatrixMagma}
 use Rattle.etp_items.specs.Bodies as Bodies
 use Rattle.etp_items.specs.Bodies.{Model, model}
 use Rattle.etp_items.specs.Reading.{SaysModel, SaysClaimed}
-use Rattle.etp_items.specs.Written.{written_by, written_proof_line, spaced_behind, written_numbers, written_table_line, written_linear, written_claim_line, pieces, cut, model_text, claim_lines, written_body, IsWritableLinear, IsWritableModel, AreWritableClaims}
-use Rattle.etp_items.proofs.ReadBack.{joined, is_text, graph_text, IsWord, words_front, words_last, decimal_number, decimal_word}
+use Rattle.etp_items.specs.Written.{written_by, written_proof_line, spaced_behind, written_numbers, written_table_line, written_linear, written_matrix_line, written_claim_line, pieces, cut, matrix_lines, model_text, claim_lines, written_body, IsWritableLinear, IsWritableMatrix, IsWritableModel, AreWritableClaims}
+use Rattle.etp_items.proofs.ReadBack.{joined, together, is_text, graph_text, IsWord, words_front, words_last, decimal_number, decimal_word}
 use Rattle.etp_items.proofs.NumberLemmas.{cut_joined, written_join, written_map}
 use Rattle.etp_items.proofs.LinearLemmas.{linear_back, linear_text}
+use Rattle.etp_items.proofs.MatrixRows.{rows_split}
 use Rattle.etp_items.proofs.TextLines.{as_given, IsTextLine, lines_back}
 
 -- numbers below 2^32
@@ -50,7 +56,7 @@ spaced_length (n ∷ ns) small =
     omega (arith, length-append (decimal n) (spaced_behind ns))
 
 -- a line of few numbers is short plain text
-numbers_text : (word ns : List ℕ) → IsWord word → length word ≤ 5 → length ns ≤ 255 → AllByRecursion Small ns
+numbers_text : (word ns : List ℕ) → IsWord word → length word ≤ 6 → length ns ≤ 255 → AllByRecursion Small ns
     → (list_all is_text (written_numbers word ns) ≡ true) × (length (written_numbers word ns) ≤ 4096)
 numbers_text word ns h short few small = (
   joined is_text word (spaced_behind ns) (graph_text word h.graph) (spaced_text ns small),
@@ -63,6 +69,19 @@ table_word = record { some = omega arith; graph = refl }
 row_word : IsWord (codes "row")
 row_word = record { some = omega arith; graph = refl }
 
+matrix_word : IsWord (codes "matrix")
+matrix_word = record { some = omega arith; graph = refl }
+
+part_is_word : (p : Part) → IsWord (part_word p)
+part_is_word A = record { some = omega arith; graph = refl }
+part_is_word B = record { some = omega arith; graph = refl }
+part_is_word C = record { some = omega arith; graph = refl }
+
+part_short : (p : Part) → length (part_word p) ≤ 6
+part_short A = omega arith
+part_short B = omega arith
+part_short C = omega arith
+
 holds_word : IsWord (codes "holds")
 holds_word = record { some = omega arith; graph = refl }
 
@@ -74,6 +93,7 @@ abbrev pub written_any : Line → List ℕ
 written_any (of_proofs, said) = written_proof_line said
 written_any (of_tables, said) = written_table_line said
 written_any (of_linear, said) = written_linear said
+written_any (of_matrices, said) = written_matrix_line said
 written_any (of_claims, said) = written_claim_line said
 
 -- a line of numbers that are small and not too many, or of a magma that can be written
@@ -82,6 +102,8 @@ IsFewLine (of_proofs, said) = ⊥
 IsFewLine (of_tables, table size) = Small size
 IsFewLine (of_tables, row entries) = (length entries ≤ 255) × AllByRecursion Small entries
 IsFewLine (of_linear, l) = IsWritableLinear l
+IsFewLine (of_matrices, Matrices.matrix modulus size) = Small modulus × Small size
+IsFewLine (of_matrices, Matrices.row part entries) = (length entries ≤ 255) × AllByRecursion Small entries
 IsFewLine (of_claims, holds numbers) = (0 < length numbers) × (length numbers ≤ 255) × AllByRecursion Small numbers
 IsFewLine (of_claims, fails numbers) = (0 < length numbers) × (length numbers ≤ 255) × AllByRecursion Small numbers
 
@@ -90,6 +112,8 @@ few_text (of_proofs, said) h = absurd h
 few_text (of_tables, table size) h = numbers_text (codes "table") (size ∷ []) table_word (omega arith) (omega arith) (h, tt)
 few_text (of_tables, row entries) h = numbers_text (codes "row") entries row_word (omega arith) h.0 h.1
 few_text (of_linear, l) h = linear_text l h
+few_text (of_matrices, Matrices.matrix modulus size) h = numbers_text (codes "matrix") (modulus ∷ size ∷ []) matrix_word (omega arith) (omega arith) (h.0, (h.1, tt))
+few_text (of_matrices, Matrices.row part entries) h = numbers_text (part_word part) entries (part_is_word part) (part_short part) h.0 h.1
 few_text (of_claims, holds numbers) h = numbers_text (codes "holds") numbers holds_word (omega arith) h.1 h.2
 few_text (of_claims, fails numbers) h = numbers_text (codes "fails") numbers fails_word (omega arith) h.1 h.2
 
@@ -108,6 +132,14 @@ few_back (of_tables, table size) h =
     record { word = decimal size; words = words_spaced (codes "table") table_word (size ∷ []) (h, tt); said = decimal_number size h }
 few_back (of_tables, row entries) h = numbers_back (codes "row") entries row_word h.1
 few_back (of_linear, l) h = linear_back l h
+few_back (of_matrices, Matrices.matrix modulus size) h = record {
+  first = decimal modulus;
+  second = decimal size;
+  words = words_spaced (codes "matrix") matrix_word (modulus ∷ size ∷ []) (h.0, (h.1, tt));
+  modulus_said = decimal_number modulus h.0;
+  size_said = decimal_number size h.1;
+}
+few_back (of_matrices, Matrices.row part entries) h = numbers_back (part_word part) entries (part_is_word part) h.1
 few_back (of_claims, holds numbers) h = record { says = numbers_back (codes "holds") numbers holds_word h.2; some = not_empty numbers h.0 }
 few_back (of_claims, fails numbers) h = record { says = numbers_back (codes "fails") numbers fails_word h.2; some = not_empty numbers h.0 }
 
@@ -133,6 +165,33 @@ read_rows size count (r ∷ rows) rest q few long small h =
     (read_rows size (count + 1) rows rest q (omega (arith, few)) long.1 small.1
     (subst (λ n. Reads bodies (in_head (Lines.rows (record { size = size; count = n }))) (as_given written_any rest) rest q) (let e : count + length (r ∷ rows) ≡ (count + 1) + length rows = omega arith in e) h))
 
+-- the row of a part that is next
+part_stands : (modulus size count : ℕ) (p : Part) (entries : List ℕ) → awaits size count p ≡ true → length entries ≡ size
+    → after (in_head (Lines.matrix (record { modulus = modulus; size = size; count = count }))) (matrix_line (Matrices.row p entries))
+    ≡ Some (in_head (Lines.matrix (record { modulus = modulus; size = size; count = count + 1 })))
+part_stands modulus size count p entries next long =
+    let eq : nat_eq (length entries) size ≡ true = eq-eqb (length entries) size long in
+    rw (next, eq) refl
+
+-- the rows of a part are next one after another
+abbrev pub AreNext : ℕ → ℕ → Part → ℕ → Type 0
+AreNext size count p n = (k : ℕ) → k < n → awaits size (count + k) p ≡ true
+
+read_part : (modulus size count : ℕ) (p : Part) (rs : List (List ℕ)) (rest : List Line) (q : Place) → AreNext size count p (length rs) → AllByRecursion (λ r. length r ≡ size) rs
+    → AllByRecursion IsFewLine (map matrix_line (map (Matrices.row p) rs) ++ rest)
+    → Reads bodies (in_head (Lines.matrix (record { modulus = modulus; size = size; count = count + length rs }))) (as_given written_any rest) rest q
+    → Reads bodies (in_head (Lines.matrix (record { modulus = modulus; size = size; count = count })))
+    (as_given written_any (map matrix_line (map (Matrices.row p) rs) ++ rest)) (map matrix_line (map (Matrices.row p) rs) ++ rest) q
+read_part modulus size count p [] rest q next long small h =
+    subst (λ n. Reads bodies (in_head (Lines.matrix (record { modulus = modulus; size = size; count = n }))) (as_given written_any rest) rest q) (let e : count + 0 ≡ count = omega arith in e) h
+read_part modulus size count p (r ∷ rs) rest q next long small h =
+    let first : awaits size count p ≡ true = subst (λ n. awaits size n p ≡ true) (let e : count + 0 ≡ count = omega arith in e) (next 0 (omega arith)) in
+    let others : AreNext size (count + 1) p (length rs) = λ k l. subst (λ n. awaits size n p ≡ true) (let e : count + (k + 1) ≡ (count + 1) + k = omega arith in e) (next (k + 1) (omega (arith, l))) in
+    reads_one (in_head (Lines.matrix (record { modulus = modulus; size = size; count = count }))) (in_head (Lines.matrix (record { modulus = modulus; size = size; count = count + 1 }))) q
+    (matrix_line (Matrices.row p r)) (map matrix_line (map (Matrices.row p) rs) ++ rest) small.0 (part_stands modulus size count p r first long.0)
+    (read_part modulus size (count + 1) p rs rest q others long.1 small.1
+    (subst (λ n. Reads bodies (in_head (Lines.matrix (record { modulus = modulus; size = size; count = n }))) (as_given written_any rest) rest q) (let e : count + length (r ∷ rs) ≡ (count + 1) + length rs = omega arith in e) h))
+
 read_failed : (fs : List (List ℕ)) → AllByRecursion IsFewLine (map claim_line (map fails fs)) → Reads bodies (in_claims failing) (as_given written_any (map claim_line (map fails fs))) (map claim_line (map fails fs)) (in_claims failing)
 read_failed [] small = (refl, refl)
 read_failed (f ∷ fs) small = reads_one (in_claims failing) (in_claims failing) (in_claims failing) (claim_line (fails f)) (map claim_line (map fails fs)) small.0 refl (read_failed fs small.1)
@@ -150,6 +209,13 @@ size_stands : (size : ℕ) → 1 ≤ size → size ≤ 255 → after opening (ta
 size_stands size low high =
     let l : nat_le 1 size ≡ true = le-leb 1 size low in
     let g : nat_le size 255 ≡ true = le-leb size 255 high in
+    rw (l, g) refl
+
+modulus_stands : (modulus size : ℕ) → 1 ≤ size → size ≤ 4
+    → after opening (matrix_line (Matrices.matrix modulus size)) ≡ Some (in_head (Lines.matrix (record { modulus = modulus; size = size; count = 0 })))
+modulus_stands modulus size low high =
+    let l : nat_le 1 size ≡ true = le-leb 1 size low in
+    let g : nat_le size 4 ≡ true = le-leb size 4 high in
     rw (l, g) refl
 
 -- pieces that a body is cut in
@@ -188,6 +254,11 @@ rows_few : (rs : List (List ℕ)) → AllByRecursion (λ r. (0 < length r) × (l
 rows_few [] h rest k = k
 rows_few (r ∷ rs) h rest k = ((h.0.1, h.0.2), rows_few rs h.1 rest k)
 
+part_few : (p : Part) (rs : List (List ℕ)) → AllByRecursion (λ r. (0 < length r) × (length r ≤ 255) × AllByRecursion Small r) rs → (rest : List Line) → AllByRecursion IsFewLine rest
+    → AllByRecursion IsFewLine (map matrix_line (map (Matrices.row p) rs) ++ rest)
+part_few p [] h rest k = k
+part_few p (r ∷ rs) h rest k = ((h.0.1, h.0.2), part_few p rs h.1 rest k)
+
 failed_few : (fs : List (List ℕ)) → AllByRecursion (λ r. (0 < length r) × (length r ≤ 255) × AllByRecursion Small r) fs → AllByRecursion IsFewLine (map claim_line (map fails fs))
 failed_few [] h = tt
 failed_few (f ∷ fs) h = (h.0, failed_few fs h.1)
@@ -201,6 +272,7 @@ held_few (r ∷ hs) rest h k = (h.0, held_few hs rest h.1 k)
 abbrev pub head_lines : Model → List Line
 head_lines (Bodies.table size entries) = table_line (table size) ∷ map table_line (map row (cut size entries))
 head_lines (Bodies.linear l) = linear_line l ∷ []
+head_lines (Bodies.matrix g) = map matrix_line (matrix_lines g)
 
 -- and those of a written body
 abbrev pub model_lines : Model → Claims → List Line
@@ -211,12 +283,32 @@ claims_few c k =
     held_few (cut 100 c.holds) (map fails (cut 100 c.fails)) (pieces_few 100 (length c.holds) c.holds (omega arith) (omega arith) (recursion_from_All Small c.holds k.holds_small))
     (failed_few (cut 100 c.fails) (pieces_few 100 (length c.fails) c.fails (omega arith) (omega arith) (recursion_from_All Small c.fails k.fails_small)))
 
+c_few : (g : MatrixMagma) → IsWritableMatrix g → (rest : List Line) → AllByRecursion IsFewLine rest → AllByRecursion IsFewLine (map matrix_line (map (Matrices.row C) (g.c ∷ [])) ++ rest)
+c_few g w rest k = ((omega (arith, w.shape.c_length, w.shape.at_most), recursion_from_All Small g.c w.c_small), k)
+
+b_few : (g : MatrixMagma) → IsWritableMatrix g → (rest : List Line) → AllByRecursion IsFewLine rest
+    → AllByRecursion IsFewLine (map matrix_line (map (Matrices.row B) (cut g.size g.b)) ++ (map matrix_line (map (Matrices.row C) (g.c ∷ [])) ++ rest))
+b_few g w rest k =
+    let few : g.size ≤ 255 = omega (arith, w.shape.at_most) in
+    part_few B (cut g.size g.b) (pieces_few g.size (length g.b) g.b w.shape.at_least few (recursion_from_All Small g.b w.b_small)) _ (c_few g w rest k)
+
+matrix_few : (g : MatrixMagma) → IsWritableMatrix g → (rest : List Line) → AllByRecursion IsFewLine rest
+    → AllByRecursion IsFewLine (map matrix_line (map (Matrices.row A) (cut g.size g.a)) ++ (map matrix_line (map (Matrices.row B) (cut g.size g.b)) ++ (map matrix_line (map (Matrices.row C) (g.c ∷ [])) ++ rest)))
+matrix_few g w rest k =
+    let few : g.size ≤ 255 = omega (arith, w.shape.at_most) in
+    let a = pieces_few g.size (length g.a) g.a w.shape.at_least few (recursion_from_All Small g.a w.a_small) in
+    part_few A (cut g.size g.a) a _ (b_few g w rest k)
+
 model_few : (m : Model) (c : Claims) → IsWritableModel m → AreWritableClaims c → AllByRecursion IsFewLine (model_lines m c)
 model_few (Bodies.table size entries) c w k = (
   omega (arith, w.1),
   rows_few (cut size entries) (pieces_few size (length entries) entries w.0 w.1 (recursion_from_All Small entries w.3)) (map claim_line (claim_lines c)) (claims_few c k),
 )
 model_few (Bodies.linear l) c w k = (w, claims_few c k)
+model_few (Bodies.matrix g) c w k = (
+  (w.modulus, omega (arith, w.shape.at_most)),
+  subst (AllByRecursion IsFewLine) (sym (rows_split (cut g.size g.a) (cut g.size g.b) (g.c ∷ []) (map claim_line (claim_lines c)))) (matrix_few g w (map claim_line (claim_lines c)) (claims_few c k)),
+)
 
 claims_read_back : (head : Head) (hs fs : List (List ℕ)) → is_told head ≡ true → 0 < length hs → 0 < length fs → AllByRecursion IsFewLine (map claim_line (map holds hs ++ map fails fs))
     → Reads bodies (in_head head) (as_given written_any (map claim_line (map holds hs ++ map fails fs))) (map claim_line (map holds hs ++ map fails fs)) (in_claims failing)
@@ -236,6 +328,37 @@ claims_behind : (head : Head) (c : Claims) → is_told head ≡ true → AreWrit
 claims_behind head c told k =
     claims_read_back head (cut 100 c.holds) (cut 100 c.fails) told (some_pieces 100 c.holds k.some_hold) (some_pieces 100 c.fails k.some_fail) (claims_few c k)
 
+matrix_read : (g : MatrixMagma) (c : Claims) → IsWritableMatrix g → AreWritableClaims c
+    → Reads bodies opening (as_given written_any (model_lines (Bodies.matrix g) c)) (model_lines (Bodies.matrix g) c) (in_claims failing)
+matrix_read g c w k =
+    let few = model_few (Bodies.matrix g) c w k in
+    let n = g.size in
+    let a = cut n g.a in
+    let b = cut n g.b in
+    let exact_a = rows_exact n n (length g.a) g.a w.shape.at_least w.shape.a_length (omega arith) in
+    let exact_b = rows_exact n n (length g.b) g.b w.shape.at_least w.shape.b_length (omega arith) in
+    let rest = map claim_line (claim_lines c) in
+    let rows_c = map matrix_line (map (Matrices.row C) (g.c ∷ [])) ++ rest in
+    let rows_b = map matrix_line (map (Matrices.row B) b) ++ rows_c in
+    let rows_a = map matrix_line (map (Matrices.row A) a) ++ rows_b in
+    let rows_few = matrix_few g w rest (claims_few c k) in
+    let told : Matrices.has_all (record { modulus = g.modulus; size = n; count = n + n + 1 }) ≡ true = eq-eqb (n + n + 1) (n + n + 1) refl in
+    let claims = claims_behind (Lines.matrix (record { modulus = g.modulus; size = n; count = n + n + 1 })) c told k in
+    let c_next : AreNext n (n + n) C 1 = λ j l. eq-eqb ((n + n) + j) (n + n) (omega (arith, l)) in
+    let c_read = read_part g.modulus n (n + n) C (g.c ∷ []) rest (in_claims failing) c_next (w.shape.c_length, tt) (c_few g w rest (claims_few c k)) claims in
+    let b_next : AreNext n n B (length b) = λ j l. together (nat_le n (n + j)) (nat_lt (n + j) (n + n)) (le-leb n (n + j) (omega arith)) (lt-ltb (n + j) (n + n) (omega (arith, l, exact_b.1))) in
+    let at_c : n + n ≡ n + length b = omega (arith, exact_b.1) in
+    let b_read = read_part g.modulus n n B b rows_c (in_claims failing) b_next exact_b.0 (b_few g w rest (claims_few c k))
+    (subst (λ i. Reads bodies (in_head (Lines.matrix (record { modulus = g.modulus; size = n; count = i }))) (as_given written_any rows_c) rows_c (in_claims failing)) at_c c_read) in
+    let a_next : AreNext n 0 A (length a) = λ j l. lt-ltb (0 + j) n (omega (arith, l, exact_a.1)) in
+    let at_b : n ≡ 0 + length a = omega (arith, exact_a.1) in
+    let a_read = read_part g.modulus n 0 A a rows_b (in_claims failing) a_next exact_a.0 rows_few
+    (subst (λ i. Reads bodies (in_head (Lines.matrix (record { modulus = g.modulus; size = n; count = i }))) (as_given written_any rows_b) rows_b (in_claims failing)) at_b b_read) in
+    reads_one opening (in_head (Lines.matrix (record { modulus = g.modulus; size = n; count = 0 }))) (in_claims failing) (matrix_line (Matrices.matrix g.modulus n))
+    (map matrix_line (rows_of a b (g.c ∷ [])) ++ rest) few.0 (modulus_stands g.modulus n w.shape.at_least w.shape.at_most)
+    (subst (λ (z : List Line). Reads bodies (in_head (Lines.matrix (record { modulus = g.modulus; size = n; count = 0 }))) (as_given written_any z) z (in_claims failing))
+    (sym (rows_split a b (g.c ∷ []) rest)) a_read)
+
 pub model_read : (m : Model) (c : Claims) → IsWritableModel m → AreWritableClaims c → Reads bodies opening (as_given written_any (model_lines m c)) (model_lines m c) (in_claims failing)
 model_read (Bodies.table size entries) c w k =
     let few = model_few (Bodies.table size entries) c w k in
@@ -248,11 +371,13 @@ model_read (Bodies.table size entries) c w k =
     (subst (λ n. Reads bodies (in_head (Lines.rows (record { size = size; count = n }))) (as_given written_any rest) rest (in_claims failing)) (let e : size ≡ 0 + length rows = omega (arith, exact.1) in e) claims))
 model_read (Bodies.linear l) c w k =
     reads_one opening (in_head (Lines.linear l)) (in_claims failing) (linear_line l) (map claim_line (claim_lines c)) w refl (claims_behind (Lines.linear l) c refl k)
+model_read (Bodies.matrix g) c w k = matrix_read g c w k
 
 -- the text of the lines of a magma
 head_text : (m : Model) → model_text m ≡ written_by written_any (head_lines m)
 head_text (Bodies.table size entries) = ap (λ z. written_table_line (table size) ++ 10 ∷ z) (sym (written_map written_any table_line (map row (cut size entries))))
 head_text (Bodies.linear l) = refl
+head_text (Bodies.matrix g) = sym (written_map written_any matrix_line (matrix_lines g))
 
 -- and what the text has
 text_lines : (m : Model) (c : Claims) → written_body (model m c) ≡ written_by written_any (model_lines m c)
@@ -267,6 +392,17 @@ model_given m c w k = ap lines_of (text_lines m c) ∙ lines_back written_any (m
 head_says : (m : Model) → IsWritableModel m → SaysModel (head_lines m) m
 head_says (Bodies.table size entries) w = (table size ∷ map row (cut size entries), refl, record { rows = cut size entries; whole = refl; entries_are = sym (cut_joined size entries w.0) })
 head_says (Bodies.linear l) w = refl
+head_says (Bodies.matrix g) w = (
+  matrix_lines g,
+  refl,
+  record {
+    a = cut g.size g.a;
+    b = cut g.size g.b;
+    whole = refl;
+    a_is = sym (cut_joined g.size g.a w.shape.at_least);
+    b_is = sym (cut_joined g.size g.b w.shape.at_least);
+  },
+)
 
 pub model_says : (m : Model) (c : Claims) → IsWritableModel m → SaysClaimed (model_lines m c) m c
 model_says m c w = record {

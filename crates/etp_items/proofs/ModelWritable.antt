@@ -1,22 +1,28 @@
 -- A magma and its claims that were read can be written.
-use Rattle.std.proofs.Common.{◌≡◌, ℕ, ◌+◌, ◌*◌, ◌<◌, ◌≤◌, ◌^◌, ◌&&◌, arith, Bool, true, false, cond, nat_le, nat_lt, nat_eq, List, [], ◌∷◌, ◌++◌, length, map, refl, sym, ap, subst, ◌∙◌, inl, inr, Option, Some, None, length-append, eqb-true, suc-mul}
+use Rattle.std.proofs.Common.{◌≡◌, ℕ, zero, suc, ◌⊎◌, ◌+◌, ◌*◌, ◌<◌, ◌≤◌, ◌^◌, ◌&&◌, arith, Bool, true, false, cond, nat_le, nat_lt, nat_eq, List, [], ◌∷◌, ◌++◌, length, map, refl, sym, ap, subst, ◌∙◌, inl, inr, Option, Some, None, length-append, eqb-true, suc-mul}
 use Rattle.std.specs.Option.{option_map}
 use Rattle.std.specs.List.{concat, AllByRecursion}
-use Rattle.std.proofs.lemmas.Bool.{leb-true, ltb-true}
+use Rattle.std.proofs.lemmas.Bool.{leb-true, ltb-true, cases_lt}
 use Rattle.std.proofs.lemmas.List.Elements.{All-nil, All-append, All-from_recursion}
 use Rattle.etp_io.specs.Texts.{LineText, whole, too_long}
 use Rattle.etp_words.specs.Numbers.{number_said}
 use Rattle.etp_reading.specs.Reading.{Reads}
 use Rattle.etp_linear.specs.Magmas.{LinearMagma}
-use Rattle.etp_items.specs.TableLines.{TableLine, table, row}
-use Rattle.etp_items.specs.Claims.{ClaimLine, holds, fails, ClaimPlace, holding, first_claim, Claims, number_then, numbers_said, SaysNumbers}
-use Rattle.etp_items.specs.BodyLines as Lines
-use Rattle.etp_items.specs.BodyLines.{Line, Head, Place, opening, in_head, in_claims, table_line, linear_line, claim_line, Says, after, after_opening, is_told, is_complete, bodies}
+use Rattle.etp_matrix.specs.Magmas.{MatrixMagma}
+use Rattle.etp_matrix.specs.declared.parts.Part.{Part}
+use Rattle.etp_matrix.specs.declared.parts.Part.TheVariants.{A, B, C}
+use Rattle.etp_lines.specs.MatrixLines as Matrices
+use Rattle.etp_lines.specs.MatrixLines.{MatrixLine, awaits, rows_of}
+use Rattle.etp_lines.specs.TableLines.{TableLine, table, row}
+use Rattle.etp_lines.specs.Claims.{ClaimLine, holds, fails, ClaimPlace, holding, first_claim, Claims, number_then, numbers_said, SaysNumbers}
+use Rattle.etp_lines.specs.BodyLines as Lines
+use Rattle.etp_lines.specs.BodyLines.{Line, Head, Place, opening, in_head, in_claims, table_line, linear_line, matrix_line, claim_line, Says, after, after_opening, is_told, is_complete, bodies}
 use Rattle.etp_items.specs.Bodies as Bodies
 use Rattle.etp_items.specs.Bodies.{Model}
 use Rattle.etp_items.specs.Reading.{SaysModel, SaysClaimed}
-use Rattle.etp_items.specs.Written.{AreNumbers, IsWritable, IsWritableModel, AreWritableClaims}
+use Rattle.etp_items.specs.Written.{AreNumbers, IsWritable, IsWritableMatrix, IsWritableModel, AreWritableClaims}
 use Rattle.etp_items.proofs.ReadBack.{both}
+use Rattle.etp_items.proofs.MatrixRows.{rows_split}
 use Rattle.etp_items.proofs.NumbersFit.{number_fits}
 
 some_none : {A : Type 0} (a : A) → Some a ≡ None → ⊥
@@ -130,6 +136,79 @@ rows_read size count xs (entries ∷ rows) rest q h =
       reads = subst (λ n. Reads bodies (in_head (Lines.rows (record { size = size; count = n }))) on.behind rest q) (let e : (count + 1) + length rows ≡ count + length (entries ∷ rows) = omega arith in e) on.reads;
     }
 
+-- a row of a part that stands
+pub record PartStands (modulus size count : ℕ) (p : Part) (entries : List ℕ) (next : Place) : Type 0 where
+  pub awaited : awaits size count p ≡ true
+  pub long : length entries ≡ size
+  pub there : next ≡ in_head (Lines.matrix (record { modulus = modulus; size = size; count = count + 1 }))
+
+part_then : (b : Bool) (modulus size count : ℕ) (p : Part) (entries : List ℕ) (next : Place) → (awaits size count p && nat_eq (length entries) size) ≡ b
+    → option_map in_head (option_map Lines.matrix (cond b (Some (record { modulus = modulus; size = size; count = count + 1 })) None)) ≡ Some next
+    → PartStands modulus size count p entries next
+part_then true modulus size count p entries next e h =
+    let s = both (awaits size count p) (nat_eq (length entries) size) e in
+    let k : in_head (Lines.matrix (record { modulus = modulus; size = size; count = count + 1 })) ≡ next = cc in
+    record { awaited = s.0; long = eqb-true (length entries) size s.1; there = sym k }
+part_then false modulus size count p entries next e h = absurd (none_some next h)
+
+part_stands : (modulus size count : ℕ) (p : Part) (entries : List ℕ) (next : Place)
+    → after (in_head (Lines.matrix (record { modulus = modulus; size = size; count = count }))) (matrix_line (Matrices.row p entries)) ≡ Some next
+    → PartStands modulus size count p entries next
+part_stands modulus size count p entries next h = part_then (awaits size count p && nat_eq (length entries) size) modulus size count p entries next refl h
+
+-- rows of a part that were read
+pub record PartRead (modulus size count : ℕ) (p : Part) (rs : List (List ℕ)) (rest : List Line) (q : Place) : Type 0 where
+  pub behind : List LineText
+  pub awaited : (k : ℕ) → k < length rs → awaits size (count + k) p ≡ true
+  pub long : AllByRecursion (λ entries. length entries ≡ size) rs
+  pub small : AllByRecursion (λ entries. AreNumbers entries) rs
+  pub reads : Reads bodies (in_head (Lines.matrix (record { modulus = modulus; size = size; count = count + length rs }))) behind rest q
+
+all_awaited : (size count : ℕ) (p : Part) (n : ℕ) → awaits size count p ≡ true → ((k : ℕ) → k < n → awaits size ((count + 1) + k) p ≡ true) → (k : ℕ) → k < n + 1 → awaits size (count + k) p ≡ true
+all_awaited size count p n first others zero l = subst (λ m. awaits size m p ≡ true) (let e : count ≡ count + 0 = omega arith in e) first
+all_awaited size count p n first others (suc k) l = subst (λ m. awaits size m p ≡ true) (let e : (count + 1) + k ≡ count + suc k = omega arith in e) (others k (omega (arith, l)))
+
+part_read : (modulus size count : ℕ) (p : Part) (xs : List LineText) (rs : List (List ℕ)) (rest : List Line) (q : Place)
+    → Reads bodies (in_head (Lines.matrix (record { modulus = modulus; size = size; count = count }))) xs (map matrix_line (map (Matrices.row p) rs) ++ rest) q
+    → PartRead modulus size count p rs rest q
+part_read modulus size count p xs [] rest q h = record {
+  behind = xs;
+  awaited = λ k l. absurd (omega (arith, l));
+  long = tt;
+  small = tt;
+  reads = subst (λ n. Reads bodies (in_head (Lines.matrix (record { modulus = modulus; size = size; count = n }))) xs rest q) (let e : count ≡ count + 0 = omega arith in e) h;
+}
+part_read modulus size count p xs (entries ∷ rs) rest q h =
+    let f = first_read (in_head (Lines.matrix (record { modulus = modulus; size = size; count = count }))) xs (matrix_line (Matrices.row p entries)) (map matrix_line (map (Matrices.row p) rs) ++ rest) q h in
+    let s = part_stands modulus size count p entries f.next f.stands in
+    let on = part_read modulus size (count + 1) p f.behind rs rest q (subst (λ (z : Place). Reads bodies z f.behind (map matrix_line (map (Matrices.row p) rs) ++ rest) q) s.there f.reads) in
+    record {
+      behind = on.behind;
+      awaited = λ k l. all_awaited size count p (length rs) s.awaited on.awaited k (omega (arith, l));
+      long = (s.long, on.long);
+      small = (numbers_small f.line _ entries f.says, on.small);
+      reads = subst (λ n. Reads bodies (in_head (Lines.matrix (record { modulus = modulus; size = size; count = n }))) on.behind rest q) (let e : (count + 1) + length rs ≡ count + length (entries ∷ rs) = omega arith in e) on.reads;
+    }
+
+few_a : (size n : ℕ) → ((k : ℕ) → k < n → awaits size (0 + k) A ≡ true) → n ≤ size
+few_a size zero h = omega arith
+few_a size (suc n) h = let l = ltb-true (0 + n) size (h n (omega arith)) in omega (arith, l)
+
+-- where B has rows, those of A are all
+behind_a : (size count n : ℕ) → ((k : ℕ) → k < n → awaits size (count + k) B ≡ true) → 0 < n → size ≤ count
+behind_a size count n h some =
+    let first = both (nat_le size (count + 0)) (nat_lt (count + 0) (size + size)) (h 0 some) in
+    let l = leb-true size (count + 0) first.0 in
+    omega (arith, l)
+
+-- where c stands, all rows of A and B do
+all_rows : (size i j : ℕ) → 1 ≤ size → i ≤ size → (0 < j → size ≤ i) → i + j ≡ size + size → (i ≡ size) × (j ≡ size)
+all_rows size i j some few_i past sum = by (cases_lt 0 j)
+  where
+    by : (0 < j) ⊎ (j ≤ 0) → (i ≡ size) × (j ≡ size)
+    by (inl l) = let k = past l in (omega (arith, k, few_i), omega (arith, k, few_i, sum))
+    by (inr l) = absurd (omega (arith, l, sum, some, few_i))
+
 some_numbers : (ns : List ℕ) → (ns ≡ [] → ⊥) → 0 < length ns
 some_numbers [] h = absurd (h refl)
 some_numbers (n ∷ ns) h = omega arith
@@ -204,6 +283,19 @@ skip_tables : (ts : List TableLine) (ls : List Line) → AllByRecursion IsWritab
 skip_tables [] ls h = h
 skip_tables (t ∷ ts) ls h = skip_tables ts ls h.1
 
+skip_matrices : (ms : List MatrixLine) (ls : List Line) → AllByRecursion IsWritable (map matrix_line ms ++ ls) → AllByRecursion IsWritable ls
+skip_matrices [] ls h = h
+skip_matrices (m ∷ ms) ls h = skip_matrices ms ls h.1
+
+modulus_then : (low high : Bool) (modulus size : ℕ) (next : Place) → nat_le 1 size ≡ low → nat_le size 4 ≡ high
+    → option_map in_head (option_map Lines.matrix (cond (low && high) (Some (record { modulus = modulus; size = size; count = 0 })) None)) ≡ Some next
+    → (1 ≤ size) × (size ≤ 4) × (next ≡ in_head (Lines.matrix (record { modulus = modulus; size = size; count = 0 })))
+modulus_then true true modulus size next l g h =
+    let k : in_head (Lines.matrix (record { modulus = modulus; size = size; count = 0 })) ≡ next = cc in
+    (leb-true 1 size l, leb-true size 4 g, sym k)
+modulus_then true false modulus size next l g h = absurd (none_some next h)
+modulus_then false high modulus size next l g h = absurd (none_some next h)
+
 -- a size that stands
 size_then : (low high : Bool) (size : ℕ) (next : Place) → nat_le 1 size ≡ low → nat_le size 255 ≡ high
     → option_map in_head (option_map Lines.rows (cond (low && high) (Some (record { size = size; count = 0 })) None)) ≡ Some next
@@ -262,11 +354,54 @@ linear_read lines saids l hs fs q complete says reads writable =
       behind = w.1;
     }
 
+matrix_read : (lines : List LineText) (saids : List Line) (g : MatrixMagma) (hs fs : List (List ℕ)) (q : Place) → is_complete q ≡ true
+    → SaysModel saids (Bodies.matrix g) → Reads bodies opening lines (saids ++ map claim_line (map holds hs ++ map fails fs)) q
+    → AllByRecursion IsWritable (saids ++ map claim_line (map holds hs ++ map fails fs)) → HeadRead (Bodies.matrix g) hs fs (map claim_line (map holds hs ++ map fails fs))
+matrix_read lines saids g hs fs q complete says reads writable =
+    let t = says.2 in
+    let n = g.size in
+    let rest = map claim_line (map holds hs ++ map fails fs) in
+    let rows_c = map matrix_line (map (Matrices.row C) (g.c ∷ [])) ++ rest in
+    let rows_b = map matrix_line (map (Matrices.row B) t.b) ++ rows_c in
+    let rows_a = map matrix_line (map (Matrices.row A) t.a) ++ rows_b in
+    let plain : saids ++ rest ≡ matrix_line (Matrices.matrix g.modulus n) ∷ (map matrix_line (rows_of t.a t.b (g.c ∷ [])) ++ rest) = ap (λ z. z ++ rest) (says.1 ∙ ap (map matrix_line) t.whole) in
+    let whole : saids ++ rest ≡ matrix_line (Matrices.matrix g.modulus n) ∷ rows_a =
+    plain ∙ ap (λ (z : List Line). matrix_line (Matrices.matrix g.modulus n) ∷ z) (rows_split t.a t.b (g.c ∷ []) rest) in
+    let f = first_read opening lines (matrix_line (Matrices.matrix g.modulus n)) rows_a q (subst (λ (z : List Line). Reads bodies opening lines z q) whole reads) in
+    let range = modulus_then (nat_le 1 n) (nat_le n 4) g.modulus n f.next refl refl f.stands in
+    let a = part_read g.modulus n 0 A f.behind t.a rows_b q (subst (λ (z : Place). Reads bodies z f.behind rows_a q) range.2 f.reads) in
+    let b = part_read g.modulus n (0 + length t.a) B a.behind t.b rows_c q a.reads in
+    let c = part_read g.modulus n ((0 + length t.a) + length t.b) C b.behind (g.c ∷ []) rest q b.reads in
+    let at_c : ((0 + length t.a) + length t.b) + 0 ≡ n + n = eqb-true (((0 + length t.a) + length t.b) + 0) (n + n) (c.awaited 0 (omega arith)) in
+    let all = all_rows n (length t.a) (length t.b) range.0 (few_a n (length t.a) a.awaited)
+    (λ l. let k = behind_a n (0 + length t.a) (length t.b) b.awaited l in omega (arith, k)) (omega (arith, at_c)) in
+    let head = Lines.matrix (record { modulus = g.modulus; size = n; count = ((0 + length t.a) + length t.b) + 1 }) in
+    let w = subst (AllByRecursion IsWritable) plain writable in
+    record {
+      head = head;
+      writable = record {
+        modulus = w.0.0;
+        shape = record {
+          at_least = range.0;
+          at_most = range.1;
+          a_length = ap length t.a_is ∙ concat_length n t.a a.long ∙ ap (λ m. m * n) all.0;
+          b_length = ap length t.b_is ∙ concat_length n t.b b.long ∙ ap (λ m. m * n) all.1;
+          c_length = c.long.0;
+        };
+        a_small = rw t.a_is (concat_small t.a a.small);
+        b_small = rw t.b_is (concat_small t.b b.small);
+        c_small = c.small.0;
+      };
+      claims = claims_read head c.behind hs fs q complete c.reads;
+      behind = skip_matrices (Matrices.matrix g.modulus n ∷ rows_of t.a t.b (g.c ∷ [])) rest w;
+    }
+
 head_read : (lines : List LineText) (saids : List Line) (m : Model) (hs fs : List (List ℕ)) (q : Place) → is_complete q ≡ true
     → SaysModel saids m → Reads bodies opening lines (saids ++ map claim_line (map holds hs ++ map fails fs)) q
     → AllByRecursion IsWritable (saids ++ map claim_line (map holds hs ++ map fails fs)) → HeadRead m hs fs (map claim_line (map holds hs ++ map fails fs))
 head_read lines saids (Bodies.table size entries) hs fs q complete says reads w = table_read lines saids size entries hs fs q complete says reads w
 head_read lines saids (Bodies.linear l) hs fs q complete says reads w = linear_read lines saids l hs fs q complete says reads w
+head_read lines saids (Bodies.matrix g) hs fs q complete says reads w = matrix_read lines saids g hs fs q complete says reads w
 
 pub model_writable : (lines : List LineText) (saids : List Line) (m : Model) (c : Claims) (q : Place) → is_complete q ≡ true → Reads bodies opening lines saids q
     → AllByRecursion IsWritable saids → SaysClaimed saids m c → IsWritableModel m × AreWritableClaims c

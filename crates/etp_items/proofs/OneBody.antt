@@ -2,12 +2,12 @@
 use Rattle.std.proofs.Common.{◌≡◌, List, [], ◌∷◌, map, refl, sym, ap, ◌∙◌, None, Some}
 use Rattle.etp_io.specs.Texts.{LineText}
 use Rattle.etp_reading.proofs.Theorems.{reading_theorems}
-use Rattle.etp_items.specs.ProofLines.{ProofLine}
-use Rattle.etp_items.specs.BodyLines.{Line, of_proofs, proof_line, opening, bodies}
-use Rattle.etp_items.specs.Claims.{Claims}
+use Rattle.etp_lines.specs.ProofLines.{ProofLine}
+use Rattle.etp_lines.specs.BodyLines.{Line, of_proofs, proof_line, opening, bodies}
+use Rattle.etp_lines.specs.Claims.{Claims}
 use Rattle.etp_items.specs.Bodies.{ProofBody, Model, FileBody, proof, model}
 use Rattle.etp_items.specs.Reading.{proof_lines, SaysClaimed, SaysBody, IsBody}
-use Rattle.etp_items.proofs.OneLine.{one}
+use Rattle.etp_lines.proofs.OneLine.{one}
 use Rattle.etp_items.proofs.OneProof.{one_proof}
 use Rattle.etp_items.proofs.OneModel.{model_in, model_is, one_model}
 

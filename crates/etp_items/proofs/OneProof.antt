@@ -2,7 +2,7 @@
 use Rattle.std.proofs.Common.{◌≡◌, ℕ, List, [], ◌∷◌, ◌++◌, map, refl, sym, ap, ◌∙◌}
 use Rattle.etp_theory.specs.Proofs.{Lemma, ProofStep}
 use Rattle.etp_items.specs.Bodies.{ProofBody}
-use Rattle.etp_items.specs.ProofLines.{Version, ProofLine, heading, cite, lemma, step}
+use Rattle.etp_lines.specs.ProofLines.{Version, ProofLine, heading, cite, lemma, step}
 use Rattle.etp_items.specs.Reading.{lemma_lines, proof_lines}
 
 -- the names that are cited at the front of the lines

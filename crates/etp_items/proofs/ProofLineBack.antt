@@ -7,8 +7,8 @@ use Rattle.etp_words.specs.Words.{words_of, behind_word}
 use Rattle.etp_text.specs.Written.{written_term}
 use Rattle.etp_text.specs.Refusals.{side_limit}
 use Rattle.etp_proof.specs.Names.{IsName}
-use Rattle.etp_items.specs.Sides.{SpellsSide}
-use Rattle.etp_items.specs.ProofLines.{Version, plain, citing, version_word, ProofLine, heading, cite, lemma, step, SaysHeading, SaysCite, SaysLemma, SaysStep, SaysProofLine}
+use Rattle.etp_lines.specs.Sides.{SpellsSide}
+use Rattle.etp_lines.specs.ProofLines.{Version, plain, citing, version_word, ProofLine, heading, cite, lemma, step, SaysHeading, SaysCite, SaysLemma, SaysStep, SaysProofLine}
 use Rattle.etp_items.specs.Written.{reference_word, direction_word, position_word, written_proof_line, IsWritableProofLine}
 use Rattle.etp_items.proofs.ReadBack.{joined, is_text, graph_text, IsWord, words_front, words_last, behind_front, decimal_number, decimal_word, name_word, reference_is_word, direction_is_word, position_is_word, reference_said, direction_said, position_said}
 use Rattle.etp_items.proofs.TermTexts.{term_text, written_side}

@@ -7,8 +7,8 @@ use Rattle.etp_theory.specs.Proofs.{ProofStep, Lemma}
 use Rattle.etp_theory.specs.Trees.{Tree}
 use Rattle.etp_reading.specs.Reading.{Reads}
 use Rattle.etp_items.specs.Bodies.{ProofBody}
-use Rattle.etp_items.specs.ProofLines.{Version, plain, citing, ProofLine, heading, cite, lemma, step, ProofPlace, headed, within, after_in_proof, may_step, cite_limit}
-use Rattle.etp_items.specs.BodyLines.{opening, in_proof, proof_line, bodies}
+use Rattle.etp_lines.specs.ProofLines.{Version, plain, citing, ProofLine, heading, cite, lemma, step, ProofPlace, headed, within, after_in_proof, may_step, cite_limit}
+use Rattle.etp_lines.specs.BodyLines.{opening, in_proof, proof_line, bodies}
 use Rattle.etp_items.specs.Reading.{lemma_lines, proof_lines}
 use Rattle.etp_items.specs.Written.{written_proof_line, is_cited, has_cited, is_empty, is_citing, IsWritableProofLine}
 use Rattle.etp_items.proofs.ReadBack.{neither}

@@ -4,8 +4,8 @@ use Rattle.etp_theory.specs.LawNumbers.{IsLaw}
 use Rattle.etp_io.specs.Texts.{LineText, whole, too_long, lines_of}
 use Rattle.etp_reading.specs.Reading.{Reads, AreListed}
 use Rattle.etp_items.specs.Bodies.{ProofBody, FileBody, proof, model}
-use Rattle.etp_items.specs.ProofLines.{Version, ProofLine}
-use Rattle.etp_items.specs.BodyLines.{Line, Place, opening, proof_line, bodies}
+use Rattle.etp_lines.specs.ProofLines.{Version, ProofLine}
+use Rattle.etp_lines.specs.BodyLines.{Line, Place, opening, proof_line, bodies}
 use Rattle.etp_items.specs.Reading.{proof_lines, SaysBody, IsReadBody, body_numbers}
 use Rattle.etp_items.specs.Written.{written_proof_line, version_for, written_body, IsWritableBody, IsShortBody, HasFewLines}
 use Rattle.etp_items.proofs.Writable.{body_writable}

@@ -12,7 +12,7 @@ use Rattle.etp_theory.specs.Proofs.{ProofStep}
 use Rattle.etp_proof.specs.Names.{IsNameByte, IsName}
 use Rattle.etp_words.specs.Words.{is_blank, skip_blanks, words_of, skip_word, behind_word}
 use Rattle.etp_words.specs.Numbers.{is_digit, value_after, number_said}
-use Rattle.etp_items.specs.ProofLines.{reference_of, reversed_of, side_then, sides_of, position_named}
+use Rattle.etp_lines.specs.ProofLines.{reference_of, reversed_of, side_then, sides_of, position_named}
 use Rattle.etp_items.specs.Written.{reference_word, direction_word, side_letter, position_word}
 use Rattle.etp_words.proofs.WordLemmas.{words_of-append}
 

@@ -9,8 +9,8 @@ use Rattle.etp_reading.specs.declared.tally.Tally.{Tally}
 use Rattle.etp_reading.specs.declared.refusal.BodyRefusal.{BodyRefusal}
 use Rattle.etp_reading.specs.declared.refusal.BodyRefusal.TheVariants.{BadLine, UnknownLaw, TooManyLines, Unfinished}
 use Rattle.etp_reading.proofs.Theorems.{tally_theorems}
-use Rattle.etp_items.specs.ProofLines.{ProofLine}
-use Rattle.etp_items.specs.BodyLines.{Line, Place, in_proof, proof_line, after, is_complete, bodies}
+use Rattle.etp_lines.specs.ProofLines.{ProofLine}
+use Rattle.etp_lines.specs.BodyLines.{Line, Place, in_proof, proof_line, after, is_complete, bodies}
 use Rattle.etp_items.specs.Bodies.{FileBody}
 use Rattle.etp_items.specs.Reading.{IsReadBody}
 use Rattle.etp_items.specs.Work.{proof_place, proof_said, OpensProof, TakesInProof, HasCome, GoesOn, Takes, IsWhole, TakesLine, HasRead}
@@ -18,7 +18,7 @@ use Rattle.etp_items.specs.declared.proof.work.ProofWork.{ProofWork}
 use Rattle.etp_items.specs.declared.work.Work.{Work}
 use Rattle.etp_items.specs.declared.work.Work.TheVariants.{Opening, Proof}
 use Rattle.etp_items.specs.declared.reader.BodyReader.{BodyReader}
-use Rattle.etp_items.proofs.OneLine.{one}
+use Rattle.etp_lines.proofs.OneLine.{one}
 
 map_end : {A B : Type 0} (f : A → B) (xs : List A) (x : A) → map f (xs ++ x ∷ []) ≡ map f xs ++ f x ∷ []
 map_end f [] x = refl

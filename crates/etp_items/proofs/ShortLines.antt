@@ -11,7 +11,7 @@ use Rattle.etp_text.specs.Refusals.{side_limit}
 use Rattle.etp_text.proofs.Lengths.{written_term_short}
 use Rattle.etp_proof.specs.Names.{IsName}
 use Rattle.etp_items.specs.Bodies.{ProofBody, proof}
-use Rattle.etp_items.specs.ProofLines.{Version, plain, citing, version_word, ProofLine, heading, cite, lemma, step}
+use Rattle.etp_lines.specs.ProofLines.{Version, plain, citing, version_word, ProofLine, heading, cite, lemma, step}
 use Rattle.etp_items.specs.Reading.{lemma_lines, proof_lines}
 use Rattle.etp_items.specs.Written.{reference_word, direction_word, side_letter, position_word, version_for, IsWritableProofLine, IsShortProofLine, IsWritableBody, IsShortBody}
 

@@ -10,7 +10,7 @@ use Rattle.etp_text.specs.Grammar.{IsIdentifier, SpellsTerm}
 use Rattle.etp_text.specs.Refusals.{side_limit}
 use Rattle.etp_text.proofs.Names.{variable_is_name}
 use Rattle.etp_text.proofs.Writing.{written_term_spells}
-use Rattle.etp_items.specs.Sides.{SpellsSide}
+use Rattle.etp_lines.specs.Sides.{SpellsSide}
 use Rattle.etp_items.proofs.ReadBack.{both, either, together, joined, is_text}
 
 -- a written term is a text of letters, digits, signs and spaces

@@ -1,7 +1,7 @@
 -- The theorems on lines, bodies and refusals.
 use Rattle.etp_reading.proofs.Theorems.{reading_theorems}
-use Rattle.etp_items.specs.BodyLines.{bodies}
-use Rattle.etp_items.proofs.OneLine.{one, one_line, blank_line}
+use Rattle.etp_lines.specs.BodyLines.{bodies}
+use Rattle.etp_lines.proofs.OneLine.{one, one_line, blank_line}
 use Rattle.etp_items.proofs.OneBody.{one_body}
 use Rattle.etp_items.proofs.WrittenReads.{written_body_reads}
 use Rattle.etp_items.proofs.Writable.{body_writable}

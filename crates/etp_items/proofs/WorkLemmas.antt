@@ -9,10 +9,10 @@ use Rattle.etp_theory.specs.Trees.{Tree}
 use Rattle.etp_theory.specs.Proofs.{Lemma, ProofStep}
 use Rattle.etp_term.specs.Terms.{tree_of}
 use Rattle.etp_term.specs.declared.term.Term.{Term}
-use Rattle.etp_items.specs.ProofLines.{Version, plain, citing, ProofLine, lemma, step, within, after_in_proof, may_step}
+use Rattle.etp_lines.specs.ProofLines.{Version, plain, citing, ProofLine, lemma, step, within, after_in_proof, may_step}
 use Rattle.etp_items.specs.Reading.{lemma_lines}
 use Rattle.etp_items.specs.Work.{place_with}
-use Rattle.etp_items.proofs.SideLemmas.{map_end}
+use Rattle.etp_lines.proofs.SideLemmas.{map_end}
 
 pub lines_end : (ls : List Lemma) (l : Lemma) → lemma_lines (ls ++ l ∷ []) ≡ lemma_lines ls ++ (lemma l.start ∷ (map step l.steps ++ []))
 lines_end [] l = refl

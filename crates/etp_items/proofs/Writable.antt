@@ -9,12 +9,13 @@ use Rattle.etp_theory.specs.Proofs.{Lemma}
 use Rattle.etp_text.specs.Grammar.{Begins, IsAtom, IsSide, variable, enclosed, alone, joined, SpellsTerm}
 use Rattle.etp_io.specs.Texts.{LineText, whole, too_long}
 use Rattle.etp_words.specs.Numbers.{number_said}
-use Rattle.etp_items.specs.TableLines.{table, row}
-use Rattle.etp_items.specs.Claims.{holds, fails}
+use Rattle.etp_lines.specs.TableLines.{table, row}
+use Rattle.etp_lines.specs.MatrixLines as Matrices
+use Rattle.etp_lines.specs.Claims.{holds, fails}
 use Rattle.etp_items.specs.Bodies.{FileBody, proof, model}
 use Rattle.etp_reading.specs.Reading.{Reads}
-use Rattle.etp_items.specs.ProofLines.{Version, plain, citing, ProofLine, heading, cite, lemma, step, SaysProofLine, reference_of, headed, cite_limit}
-use Rattle.etp_items.specs.BodyLines.{Line, of_proofs, of_tables, of_linear, of_claims, Place, opening, in_proof, proof_line, Says, after, is_complete, bodies}
+use Rattle.etp_lines.specs.ProofLines.{Version, plain, citing, ProofLine, heading, cite, lemma, step, SaysProofLine, reference_of, headed, cite_limit}
+use Rattle.etp_lines.specs.BodyLines.{Line, of_proofs, of_tables, of_linear, of_matrices, of_claims, Place, opening, in_proof, proof_line, Says, after, is_complete, bodies}
 use Rattle.etp_items.specs.Reading.{lemma_lines, proof_lines, IsBody}
 use Rattle.etp_items.specs.Written.{IsWritable, IsWritableProofLine, IsWritableBody, version_for}
 use Rattle.etp_items.proofs.NumbersFit.{number_fits}
@@ -76,6 +77,8 @@ says_writable line (of_proofs, l) s = proof_line_writable line l s
 says_writable line (of_tables, table size) s = number_fits s.word size s.said
 says_writable line (of_tables, row entries) s = numbers_small line _ entries s
 says_writable line (of_linear, l) s = linear_writable line l s
+says_writable line (of_matrices, Matrices.matrix modulus size) s = (number_fits s.first modulus s.modulus_said, number_fits s.second size s.size_said)
+says_writable line (of_matrices, Matrices.row part entries) s = numbers_small line _ entries s
 says_writable line (of_claims, holds numbers) s = numbers_small line _ numbers s.says
 says_writable line (of_claims, fails numbers) s = numbers_small line _ numbers s.says
 

@@ -7,10 +7,10 @@ use Rattle.etp_term.specs.declared.position.Side.{Side}
 use Rattle.etp_proof.specs.Lemmas.{step_of, lemma_of}
 use Rattle.etp_proof.specs.declared.proof.Step.{Step}
 use Rattle.etp_proof.specs.declared.proof.Lemma as Program
-use Rattle.etp_items.specs.ProofLines.{ProofLine, lemma, step}
+use Rattle.etp_lines.specs.ProofLines.{ProofLine, lemma, step}
 use Rattle.etp_items.specs.Reading.{lemma_lines}
 use Rattle.etp_items.specs.Written.{written_proof_line, written_proof_lines, side_letter, position_word, is_cited, has_cited, is_empty}
-use Rattle.etp_items.proofs.SideLemmas.{map_end}
+use Rattle.etp_lines.proofs.SideLemmas.{map_end}
 use Rattle.etp_items.proofs.WorkLemmas.{lines_end}
 
 pub written_append : (xs ys : List ProofLine) → written_proof_lines (xs ++ ys) ≡ written_proof_lines xs ++ written_proof_lines ys

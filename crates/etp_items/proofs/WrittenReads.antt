@@ -7,8 +7,8 @@ use Rattle.etp_theory.specs.Proofs.{ProofStep, Lemma}
 use Rattle.etp_io.specs.Texts.{LineText, lines_of}
 use Rattle.etp_reading.specs.Reading.{Reads, AreWhole, AreListed}
 use Rattle.etp_items.specs.Bodies.{ProofBody, FileBody, proof, model}
-use Rattle.etp_items.specs.ProofLines.{Version, ProofLine, heading, cite, lemma, step, within}
-use Rattle.etp_items.specs.BodyLines.{Line, opening, in_proof, proof_line, numbers_of, bodies}
+use Rattle.etp_lines.specs.ProofLines.{Version, ProofLine, heading, cite, lemma, step, within}
+use Rattle.etp_lines.specs.BodyLines.{Line, opening, in_proof, proof_line, numbers_of, bodies}
 use Rattle.etp_items.specs.Reading.{lemma_lines, proof_lines, IsBody, body_numbers}
 use Rattle.etp_items.specs.Written.{written_proof_line, is_citing, version_for, written_body, IsWritableProofLine, IsShortProofLine, IsWritableBody, IsShortBody}
 use Rattle.etp_items.proofs.TextLines.{as_given, IsTextLine, lines_back}

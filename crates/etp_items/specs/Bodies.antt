@@ -4,9 +4,11 @@ use Rattle.etp_theory.specs.Proofs.{Lemma}
 use Rattle.etp_proof.specs.Lemmas.{lemma_of}
 use Rattle.etp_proof.specs.declared.proof.Proof.{Proof}
 use Rattle.etp_linear.specs.Magmas.{LinearMagma}
-use Rattle.etp_items.specs.Claims.{Claims}
+use Rattle.etp_matrix.specs.Magmas.{MatrixMagma}
+use Rattle.etp_lines.specs.Claims.{Claims}
 use Rattle.etp_items.specs.declared.body.Claims as Declared
 use Rattle.etp_items.specs.declared.body.LinearBody.{LinearBody}
+use Rattle.etp_items.specs.declared.body.MatrixBody.{MatrixBody}
 use Rattle.etp_items.specs.declared.body.Body.{Body}
 use Rattle.etp_items.specs.declared.body.Body.TheVariants as Program
 
@@ -23,6 +25,7 @@ pub data Model : Type 0 where
   -- an operation table of this size with these entries, row by row
   table : ℕ → List ℕ → Model
   linear : LinearMagma → Model
+  matrix : MatrixMagma → Model
 
 -- what the lines of a file are
 pub data FileBody : Type 0 where
@@ -47,8 +50,13 @@ claims_of c = record { holds = c.holds; fails = c.fails }
 abbrev pub linear_in : LinearBody → LinearMagma
 linear_in l = record { ring = l.ring; a = l.a; b = l.b; c = l.c }
 
+-- the matrix-linear magma
+abbrev pub matrix_in : MatrixBody → MatrixMagma
+matrix_in m = record { modulus = m.modulus; size = m.size; a = m.a; b = m.b; c = m.c }
+
 -- and the body
 abbrev pub body_of : Body → FileBody
 body_of (Program.Proof p) = proof (proof_of p)
 body_of (Program.Table t) = model (table t.size t.entries) (claims_of t.claims)
 body_of (Program.Linear l) = model (linear (linear_in l)) (claims_of l.claims)
+body_of (Program.Matrix m) = model (matrix (matrix_in m)) (claims_of m.claims)

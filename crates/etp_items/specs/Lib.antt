@@ -1,11 +1,4 @@
-pub mod Sides
-pub mod Claims
-pub mod TableLines
-pub mod LinearLines
 pub mod Bodies
-pub mod ProofLines
-pub mod BodyLines
-pub mod Said
 pub mod Reading
 pub mod Work
 pub mod Written

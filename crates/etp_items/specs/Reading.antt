@@ -5,11 +5,13 @@ use Rattle.etp_io.specs.Texts.{LineText}
 use Rattle.etp_reading.specs.Reading as Lines
 use Rattle.etp_reading.specs.Reading.{AreWhole, AreListed, line_limit}
 use Rattle.etp_reading.specs.declared.refusal.BodyRefusal.{BodyRefusal}
-use Rattle.etp_items.specs.ProofLines.{Version, ProofLine, heading, cite, lemma, step}
-use Rattle.etp_items.specs.TableLines.{TableLine, SaysRows}
-use Rattle.etp_items.specs.Claims.{ClaimLine, Claims, SaysClaims}
-use Rattle.etp_items.specs.BodyLines.{Line, proof_line, table_line, linear_line, claim_line, bodies}
-use Rattle.etp_items.specs.Bodies.{ProofBody, Model, table, linear, FileBody, proof, model}
+use Rattle.etp_lines.specs.ProofLines.{Version, ProofLine, heading, cite, lemma, step}
+use Rattle.etp_lines.specs.TableLines.{TableLine, SaysRows}
+use Rattle.etp_lines.specs.MatrixLines as Matrices
+use Rattle.etp_lines.specs.MatrixLines.{MatrixLine}
+use Rattle.etp_lines.specs.Claims.{ClaimLine, Claims, SaysClaims}
+use Rattle.etp_lines.specs.BodyLines.{Line, proof_line, table_line, linear_line, matrix_line, claim_line, bodies}
+use Rattle.etp_items.specs.Bodies.{ProofBody, Model, table, linear, matrix, FileBody, proof, model}
 
 -- the lines of lemmas: each lemma's start, and its steps
 abbrev pub lemma_lines : List Lemma → List ProofLine
@@ -25,6 +27,7 @@ abbrev pub SaysModel : List Line → Model → Type 0
 SaysModel saids (table size entries) =
     (lines : List TableLine) × (saids ≡ map table_line lines) × SaysRows lines size entries
 SaysModel saids (linear l) = saids ≡ linear_line l ∷ []
+SaysModel saids (matrix g) = (lines : List MatrixLine) × (saids ≡ map matrix_line lines) × Matrices.SaysRows lines g
 
 -- lines that tell a magma, and behind them claims
 pub record SaysClaimed (saids : List Line) (m : Model) (claims : Claims) : Type 0 where

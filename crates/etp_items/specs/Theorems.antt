@@ -6,7 +6,7 @@ use Rattle.etp_theory.specs.Proofs.{IsValidProof}
 use Rattle.etp_io.specs.Texts.{LineText, lines_of}
 use Rattle.etp_items.specs.Bodies.{FileBody, ProofBody, proof}
 use Rattle.etp_words.specs.Words.{IsBlankLine}
-use Rattle.etp_items.specs.BodyLines.{Line, Says}
+use Rattle.etp_lines.specs.BodyLines.{Line, Says}
 use Rattle.etp_items.specs.Reading.{IsBody, IsReadBody, body_numbers, Refuses}
 use Rattle.etp_items.specs.Written.{written_body, IsWritableBody, IsShortBody, HasFewLines}
 use Rattle.etp_reading.specs.declared.refusal.BodyRefusal.{BodyRefusal}

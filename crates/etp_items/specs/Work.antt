@@ -1,5 +1,5 @@
 -- What a reader has read of a body.
-use Rattle.std.specs.Prelude.{◌≡◌, ◌≤◌, nat_eq, All, ℕ, Bool, true, false, List, [], ◌∷◌, ◌++◌, length, map, Option, Some, None}
+use Rattle.std.specs.Prelude.{◌≡◌, ◌≤◌, ◌<◌, ◌+◌, nat_eq, All, ℕ, Bool, true, false, List, [], ◌∷◌, ◌++◌, length, map, Option, Some, None}
 use Rattle.std.specs.List.{concat}
 use Rattle.etp_io.specs.Texts.{LineText, whole}
 use Rattle.etp_words.specs.Words.{IsBlankLine}
@@ -7,20 +7,26 @@ use Rattle.etp_reading.specs.Reading.{HasNoPlace}
 use Rattle.etp_reading.specs.Tallies.{HasTallied, HasFirst}
 use Rattle.etp_proof.specs.declared.proof.Lemma.{Lemma}
 use Rattle.etp_proof.specs.declared.label.Label.{Label}
-use Rattle.etp_items.specs.ProofLines.{Version, ProofLine, ProofPlace, headed, within, after_in_proof}
-use Rattle.etp_items.specs.TableLines.{TableLine, table, row, Rows, after_in_table}
-use Rattle.etp_items.specs.Claims.{ClaimLine, SaysClaims, ClaimPlace, holding, failing, first_claim, after_claim}
-use Rattle.etp_items.specs.BodyLines as Lines
-use Rattle.etp_items.specs.BodyLines.{Line, Head, opened_head, next_head, is_told, in_head, in_claims, table_line, linear_line, claim_line, Place, opening, in_proof, proof_line, after_opening, after, is_complete, Says, numbers_of, bodies}
+use Rattle.etp_lines.specs.ProofLines.{Version, ProofLine, ProofPlace, headed, within, after_in_proof}
+use Rattle.etp_lines.specs.TableLines.{TableLine, table, row, Rows, after_in_table}
+use Rattle.etp_matrix.specs.Magmas.{MatrixMagma}
+use Rattle.etp_matrix.specs.declared.parts.Part.{Part}
+use Rattle.etp_matrix.specs.declared.parts.Part.TheVariants.{A, B, C}
+use Rattle.etp_lines.specs.MatrixLines as Matrices
+use Rattle.etp_lines.specs.MatrixLines.{MatrixLine, matrix, rows_of}
+use Rattle.etp_lines.specs.Claims.{ClaimLine, SaysClaims, ClaimPlace, holding, failing, first_claim, after_claim}
+use Rattle.etp_lines.specs.BodyLines as Lines
+use Rattle.etp_lines.specs.BodyLines.{Line, Head, opened_head, next_head, is_told, in_head, in_claims, table_line, linear_line, matrix_line, claim_line, Place, opening, in_proof, proof_line, after_opening, after, is_complete, Says, numbers_of, bodies}
 use Rattle.etp_items.specs.Bodies as Bodies
 use Rattle.etp_items.specs.Bodies.{FileBody, proof_of, claims_of}
-use Rattle.etp_items.specs.Said.{version_of, linear_of}
+use Rattle.etp_lines.specs.Said.{version_of, linear_of}
 use Rattle.etp_items.specs.Reading.{proof_lines, SaysBody}
 use Rattle.etp_items.specs.declared.proof.work.ProofWork.{ProofWork}
 use Rattle.etp_items.specs.declared.table.work.TableWork.{TableWork}
+use Rattle.etp_items.specs.declared.matrix.work.MatrixWork.{MatrixWork}
 use Rattle.etp_items.specs.declared.claims.work.ClaimsWork.{ClaimsWork}
 use Rattle.etp_items.specs.declared.magma.MagmaWork.{MagmaWork}
-use Rattle.etp_items.specs.declared.magma.MagmaWork.TheVariants.{Table, Linear}
+use Rattle.etp_items.specs.declared.magma.MagmaWork.TheVariants.{Table, Linear, Matrix}
 use Rattle.etp_items.specs.declared.work.Work.{Work}
 use Rattle.etp_items.specs.declared.work.Work.TheVariants.{Opening, Proof, Model}
 use Rattle.etp_items.specs.declared.reader.Next.{Next}
@@ -86,6 +92,58 @@ TakesInTable old said new false =
 abbrev pub has_all_rows : TableWork → Bool
 has_all_rows w = nat_eq w.rows w.size
 
+-- these rows of a matrix-linear magma have been read: of A, then of B, then c
+pub record HasMatrixRows (w : MatrixWork) (a b c : List (List ℕ)) : Type 0 where
+  pub some : 1 ≤ w.size
+  pub small : w.size ≤ 4
+  pub count_is : w.rows ≡ length a + length b + length c
+  pub few_a : length a ≤ w.size
+  pub few_b : length b ≤ w.size
+  pub few_c : length c ≤ 1
+  pub a_first : length a < w.size → b ≡ []
+  pub b_before_c : length b < w.size → c ≡ []
+  pub a_is : w.a ≡ concat a
+  pub b_is : w.b ≡ concat b
+  pub c_is : w.c ≡ concat c
+
+-- how far a matrix-linear magma has come
+abbrev pub matrix_place : MatrixWork → Matrices.Rows
+matrix_place w = record { modulus = w.modulus; size = w.size; count = w.rows }
+
+-- what its lines said
+abbrev pub matrix_said : MatrixWork → List (List ℕ) → List (List ℕ) → List (List ℕ) → List MatrixLine
+matrix_said w a b c = matrix w.modulus w.size ∷ rows_of a b c
+
+-- with these entries more in the part
+abbrev pub with_entries : MatrixWork → Part → List ℕ → MatrixWork
+with_entries w A entries = record w { a = w.a ++ entries }
+with_entries w B entries = record w { b = w.b ++ entries }
+with_entries w C entries = record w { c = w.c ++ entries }
+
+-- its first line opens one, and no other line
+abbrev pub OpensMatrix : MatrixLine → Option MatrixWork → Type 0
+OpensMatrix said None = opened_head (matrix_line said) ≡ None
+OpensMatrix said (Some w) = (said ≡ matrix w.modulus w.size) × HasMatrixRows w [] [] []
+
+-- the work goes on with this row
+pub record TakesMatrixRow (old new : MatrixWork) (said : MatrixLine) (a b c : List (List ℕ)) : Type 0 where
+  pub next_a : List (List ℕ)
+  pub next_b : List (List ℕ)
+  pub next_c : List (List ℕ)
+  pub stands : Matrices.after_in_matrix (matrix_place old) said ≡ Some (matrix_place new)
+  pub now : HasMatrixRows new next_a next_b next_c
+  pub said_is : matrix_said new next_a next_b next_c ≡ matrix_said old a b c ++ said ∷ []
+
+-- a row that may stand is taken, and no other line
+abbrev pub TakesInMatrix : MatrixWork → MatrixLine → MatrixWork → Bool → Type 0
+TakesInMatrix old said new true =
+    (a b c : List (List ℕ)) → HasMatrixRows old a b c → TakesMatrixRow old new said a b c
+TakesInMatrix old said new false = Matrices.after_in_matrix (matrix_place old) said ≡ None
+
+-- the magma of the rows
+abbrev pub matrix_told : MatrixWork → MatrixMagma
+matrix_told w = record { modulus = w.modulus; size = w.size; a = w.a; b = w.b; c = w.c }
+
 -- how far claims have come
 abbrev pub claim_at : Bool → ClaimPlace
 claim_at true = failing
@@ -116,6 +174,8 @@ abbrev pub HasHead : MagmaWork → Head → List Line → Type 0
 HasHead (Table w) head saids = (rows : List (List ℕ)) × HasRows w rows × (head ≡ Lines.rows (rows_place w rows))
     × (saids ≡ map table_line (table w.size ∷ map row rows))
 HasHead (Linear l) head saids = (head ≡ Lines.linear (linear_of l)) × (saids ≡ linear_line (linear_of l) ∷ [])
+HasHead (Matrix w) head saids = (a : List (List ℕ)) × (b : List (List ℕ)) × (c : List (List ℕ)) × HasMatrixRows w a b c
+    × (head ≡ Lines.matrix (matrix_place w)) × (saids ≡ map matrix_line (matrix_said w a b c))
 
 -- the first line of a magma opens one, and no other line
 abbrev pub OpensHead : Line → Option MagmaWork → Type 0
@@ -138,11 +198,13 @@ TakesInHead old said new false = (head : Head) (saids : List Line) → HasHead o
 abbrev pub is_told_by : MagmaWork → Bool
 is_told_by (Table w) = has_all_rows w
 is_told_by (Linear l) = true
+is_told_by (Matrix w) = Matrices.has_all (matrix_place w)
 
 -- the magma that was told
 abbrev pub told_by : MagmaWork → Bodies.Model
 told_by (Table w) = Bodies.table w.size w.entries
 told_by (Linear l) = Bodies.linear (linear_of l)
+told_by (Matrix w) = Bodies.matrix (matrix_told w)
 
 -- the lines of a magma and its claims have come to this place and said this
 abbrev pub HasModel : MagmaWork → Option ClaimsWork → Place → List Line → Type 0

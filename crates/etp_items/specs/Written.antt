@@ -13,12 +13,15 @@ use Rattle.etp_proof.specs.Names.{IsName}
 use Rattle.etp_linear.specs.Magmas.{LinearMagma}
 use Rattle.etp_linear.specs.declared.parts.Ring.{Ring}
 use Rattle.etp_linear.specs.declared.parts.Ring.TheVariants.{Integers, Modulo}
-use Rattle.etp_items.specs.Bodies.{ProofBody, Model, table, linear, FileBody, proof, model}
-use Rattle.etp_items.specs.ProofLines.{Version, plain, citing, version_word, ProofLine, heading, cite, lemma, step, cite_limit}
-use Rattle.etp_items.specs.TableLines as Tables
-use Rattle.etp_items.specs.TableLines.{TableLine, row}
-use Rattle.etp_items.specs.Claims.{ClaimLine, Claims, holds, fails}
-use Rattle.etp_items.specs.BodyLines.{Line, of_proofs, of_tables, of_linear, of_claims}
+use Rattle.etp_matrix.specs.Magmas.{MatrixMagma, IsShape}
+use Rattle.etp_items.specs.Bodies.{ProofBody, Model, table, linear, matrix, FileBody, proof, model}
+use Rattle.etp_lines.specs.ProofLines.{Version, plain, citing, version_word, ProofLine, heading, cite, lemma, step, cite_limit}
+use Rattle.etp_lines.specs.TableLines as Tables
+use Rattle.etp_lines.specs.TableLines.{TableLine, row}
+use Rattle.etp_lines.specs.MatrixLines as Matrices
+use Rattle.etp_lines.specs.MatrixLines.{MatrixLine, part_word, rows_of}
+use Rattle.etp_lines.specs.Claims.{ClaimLine, Claims, holds, fails}
+use Rattle.etp_lines.specs.BodyLines.{Line, of_proofs, of_tables, of_linear, of_matrices, of_claims}
 use Rattle.etp_items.specs.Reading.{proof_lines}
 
 -- the number of a line, or `c` and that of a cite
@@ -107,6 +110,11 @@ abbrev pub written_linear : LinearMagma → List ℕ
 written_linear l =
     spaced (codes "linear" ∷ (ring_words l.ring ++ signed_decimal l.a ∷ signed_decimal l.b ∷ signed_decimal l.c ∷ []))
 
+-- each line of a matrix-linear magma by its words
+abbrev pub written_matrix_line : MatrixLine → List ℕ
+written_matrix_line (Matrices.matrix modulus size) = written_numbers (codes "matrix") (modulus ∷ size ∷ [])
+written_matrix_line (Matrices.row part entries) = written_numbers (part_word part) entries
+
 -- and each line of claims
 abbrev pub written_claim_line : ClaimLine → List ℕ
 written_claim_line (holds numbers) = written_numbers (codes "holds") numbers
@@ -122,10 +130,16 @@ pieces n (suc k) (x ∷ xs) = take n (x ∷ xs) ∷ pieces n k (drop n (x ∷ xs
 abbrev pub cut : ℕ → List ℕ → List (List ℕ)
 cut n numbers = pieces n (length numbers) numbers
 
+-- the lines of a matrix-linear magma: the rows of A, those of B, and c
+abbrev pub matrix_lines : MatrixMagma → List MatrixLine
+matrix_lines g =
+    Matrices.matrix g.modulus g.size ∷ rows_of (cut g.size g.a) (cut g.size g.b) (g.c ∷ [])
+
 -- the lines of a magma as they are written
 abbrev pub model_text : Model → List ℕ
 model_text (table size entries) = written_by written_table_line (Tables.table size ∷ map row (cut size entries))
 model_text (linear l) = written_by written_linear (l ∷ [])
+model_text (matrix g) = written_by written_matrix_line (matrix_lines g)
 
 -- the lines of claims as they are written
 abbrev pub claim_lines : Claims → List ClaimLine
@@ -160,6 +174,8 @@ IsWritable (of_proofs, said) = IsWritableProofLine said
 IsWritable (of_tables, Tables.table size) = size < 2 ^ 32
 IsWritable (of_tables, row entries) = AreNumbers entries
 IsWritable (of_linear, l) = IsWritableLinear l
+IsWritable (of_matrices, Matrices.matrix modulus size) = (modulus < 2 ^ 32) × (size < 2 ^ 32)
+IsWritable (of_matrices, Matrices.row part entries) = AreNumbers entries
 IsWritable (of_claims, holds numbers) = AreNumbers numbers
 IsWritable (of_claims, fails numbers) = AreNumbers numbers
 
@@ -167,17 +183,27 @@ IsWritable (of_claims, fails numbers) = AreNumbers numbers
 abbrev pub IsShortProofLine : ProofLine → Type 0
 IsShortProofLine line = length (written_proof_line line) ≤ 4096
 
+-- numbers below 2^32, and as many in A, B and c as the size wants
+pub record IsWritableMatrix (g : MatrixMagma) : Type 0 where
+  pub modulus : g.modulus < 2 ^ 32
+  pub shape : IsShape g.size g.a g.b g.c
+  pub a_small : AreNumbers g.a
+  pub b_small : AreNumbers g.b
+  pub c_small : AreNumbers g.c
+
 -- a table has a size from 1 to 255 and size times size entries
 abbrev pub IsWritableModel : Model → Type 0
 IsWritableModel (table size entries) =
     (1 ≤ size) × (size ≤ 255) × (length entries ≡ size * size) × AreNumbers entries
 IsWritableModel (linear l) = IsWritableLinear l
+IsWritableModel (matrix g) = IsWritableMatrix g
 
--- the condition of the written form: a table has a size of at least 1
+-- the condition of the written form: a size, of a table or of matrices, is at least 1
 abbrev pub HasSize : FileBody → Type 0
 HasSize (proof p) = Unit {0}
 HasSize (model (table size entries) claims) = 1 ≤ size
 HasSize (model (linear l) claims) = Unit {0}
+HasSize (model (matrix g) claims) = 1 ≤ g.size
 
 -- there are laws that are to hold and laws that are to fail
 pub record AreWritableClaims (claims : Claims) : Type 0 where

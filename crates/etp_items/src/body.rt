@@ -11,6 +11,8 @@ pub enum Body {
     Table(TableBody),
     /// A linear magma that is to be a model of laws.
     Linear(LinearBody),
+    /// A matrix-linear magma that is to be a model of laws.
+    Matrix(MatrixBody),
 }
 
 /// An operation table, its entries row by row, and what it is to show.
@@ -28,6 +30,18 @@ pub struct LinearBody {
     pub a: i64,
     pub b: i64,
     pub c: i64,
+    pub claims: Claims,
+}
+
+/// A matrix-linear magma, x ◇ y = A x + B y + c over vectors of `size` numbers modulo the modulus, the
+/// matrices row by row, and what it is to show. No number is in a range yet.
+#[derive(Drop)]
+pub struct MatrixBody {
+    pub modulus: u32,
+    pub size: u8,
+    pub a: Numbers,
+    pub b: Numbers,
+    pub c: Numbers,
     pub claims: Claims,
 }
 

@@ -6,22 +6,21 @@ ghost use Rattle.etp_items.specs.Theorems.{BodyTheorems};
 mod body;
 mod claims;
 mod linear;
-mod lines;
 mod magma;
+mod matrix;
 mod model;
 mod numbers;
 mod proof;
 mod reader;
-mod sides;
 mod table;
 mod work;
 mod writing;
 
-pub use body::{Body, Claims, LinearBody, TableBody};
+pub use body::{Body, Claims, LinearBody, MatrixBody, TableBody};
+pub use etp_lines::{lemma_line, step_line};
 pub use etp_reading::BodyRefusal;
 pub use etp_words::number_word;
 pub use numbers::append_spaced;
-pub use proof::lines::{lemma_line, step_line};
 pub use reader::BodyReader;
 pub use writing::body_text;
 

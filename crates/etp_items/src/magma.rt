@@ -1,14 +1,14 @@
 // A magma as far as its lines have been read: a case for each kind of magma.
 ghost use Rattle.std.specs.Prelude.{◌≡◌, IfOk, OnErr};
 ghost use Rattle.etp_items.specs.Bodies.{model, body_of, claims_of};
-ghost use Rattle.etp_items.specs.Said.{line_of};
+ghost use Rattle.etp_lines.specs.Said.{line_of};
 ghost use Rattle.etp_items.specs.Work as Works;
 ghost use Rattle.etp_items.specs.Work.{OpensHead, TakesInHead, told_by};
 
-use crate::body::{Body, Claims, LinearBody, TableBody};
-use crate::linear::lines::LinearLine;
-use crate::lines::Line;
+use crate::body::{Body, Claims, LinearBody, MatrixBody, TableBody};
+use crate::matrix::work::MatrixWork;
 use crate::table::work::TableWork;
+use etp_lines::{Line, LinearLine};
 use etp_term::NoMemory;
 use std::alloc::Global;
 
@@ -18,6 +18,7 @@ pub(crate) enum MagmaWork {
     Table(TableWork),
     /// One line tells a linear magma.
     Linear(LinearLine),
+    Matrix(MatrixWork),
 }
 
 impl MagmaWork {
@@ -31,6 +32,10 @@ impl MagmaWork {
                 Some(MagmaWork::Table(work))
             }
             Line::Linear(said) => Some(MagmaWork::Linear(said)),
+            Line::Matrix(said) => {
+                let work = MatrixWork::open(alloc, said)?;
+                Some(MagmaWork::Matrix(work))
+            }
             Line::Proof(_) | Line::Claim(_) => None,
         }
     }
@@ -43,9 +48,13 @@ impl MagmaWork {
         match self {
             MagmaWork::Table(work) => match said {
                 Line::Table(said) => work.take(said),
-                Line::Proof(_) | Line::Linear(_) | Line::Claim(_) => Ok(false),
+                Line::Proof(_) | Line::Linear(_) | Line::Matrix(_) | Line::Claim(_) => Ok(false),
             },
             MagmaWork::Linear(_) => Ok(false),
+            MagmaWork::Matrix(work) => match said {
+                Line::Matrix(said) => work.take(said),
+                Line::Proof(_) | Line::Table(_) | Line::Linear(_) | Line::Claim(_) => Ok(false),
+            },
         }
     }
 
@@ -56,6 +65,7 @@ impl MagmaWork {
         match self {
             MagmaWork::Table(work) => work.has_all_rows(),
             MagmaWork::Linear(_) => true,
+            MagmaWork::Matrix(work) => work.has_all_rows(),
         }
     }
 
@@ -74,6 +84,14 @@ impl MagmaWork {
                 a: line.a,
                 b: line.b,
                 c: line.c,
+                claims,
+            }),
+            MagmaWork::Matrix(work) => Body::Matrix(MatrixBody {
+                modulus: work.modulus,
+                size: work.size,
+                a: work.a,
+                b: work.b,
+                c: work.c,
                 claims,
             }),
         }

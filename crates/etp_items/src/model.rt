@@ -2,16 +2,15 @@
 ghost use Rattle.std.specs.Prelude.{◌≡◌, None, IfOk, OnErr};
 ghost use Rattle.std.specs.Option.{option_map};
 ghost use Rattle.etp_items.specs.Bodies.{body_of};
-ghost use Rattle.etp_items.specs.BodyLines.{claim_line};
-ghost use Rattle.etp_items.specs.Said.{line_of, claim_line_of};
+ghost use Rattle.etp_lines.specs.BodyLines.{claim_line};
+ghost use Rattle.etp_lines.specs.Said.{line_of, claim_line_of};
 ghost use Rattle.etp_items.specs.Work.{Takes, IsWhole};
 ghost use Rattle.etp_items.specs.declared.work.Work.TheVariants as Works;
 
 use crate::body::Body;
-use crate::claims::lines::ClaimLine;
 use crate::claims::work::ClaimsWork;
-use crate::lines::Line;
 use crate::magma::MagmaWork;
+use etp_lines::{ClaimLine, Line};
 use etp_term::NoMemory;
 use std::alloc::Global;
 
@@ -29,7 +28,7 @@ impl ModelWork {
         ensures err { OnErr result (self.new ≡ self.old) }
     {
         match said {
-            Line::Proof(_) | Line::Table(_) | Line::Linear(_) => {
+            Line::Proof(_) | Line::Table(_) | Line::Linear(_) | Line::Matrix(_) => {
                 if self.claims.is_some() {
                     return Ok(false);
                 }

@@ -1,31 +1,9 @@
 // Numbers in the lines of bodies.
-ghost use Rattle.std.specs.Prelude.{◌≡◌, ◌≤◌, ◌++◌, ◌∷◌, [], length, IfOk, OnOk};
-ghost use Rattle.etp_words.specs.Words.{words_of};
-ghost use Rattle.etp_items.specs.Claims.{numbers_said};
+ghost use Rattle.std.specs.Prelude.{◌≡◌, ◌≤◌, ◌++◌, ◌∷◌, [], OnOk};
 ghost use Rattle.etp_items.specs.Written.{written_numbers, spaced_behind, written_by, cut};
 
-use etp_bits::Numbers;
 use etp_term::NoMemory;
 use etp_text::Text;
-use etp_words::{next_word, number_word};
-use std::alloc::Global;
-
-/// The numbers that the words are; None where a word is none.
-pub(crate) fn read_numbers(alloc: Global, text: &[u8]) -> Result<Option<Numbers>, NoMemory>
-    requires { length text.now ≤ 4096 }
-    ensures { IfOk result (λ o. o ≡ numbers_said (words_of text.now)) }
-{
-    let mut numbers = Numbers::empty(alloc);
-    let mut rest = text;
-    while let Some((word, behind)) = next_word(rest) {
-        let Some(number) = number_word(word) else {
-            return Ok(None);
-        };
-        numbers.push(number)?;
-        rest = behind;
-    }
-    Ok(Some(numbers))
-}
 
 /// Appends a line of a word and numbers.
 pub(crate) fn append_numbers(text: &mut Text, word: &[u8], numbers: &[u32]) -> Result<(), NoMemory>

@@ -7,8 +7,8 @@ ghost use Rattle.etp_items.specs.Reading.{IsReadBody, Refuses};
 ghost use Rattle.etp_items.specs.Work.{GoesNext, HasRead};
 
 use crate::body::Body;
-use crate::lines::{is_blank_line, read_line};
 use crate::work::Work;
+use etp_lines::{is_blank_line, read_line};
 use etp_reading::{BodyRefusal, Tally};
 use etp_term::NoMemory;
 use std::alloc::Global;

@@ -3,7 +3,7 @@ ghost use Rattle.std.specs.Prelude.{IsTrue};
 ghost use Rattle.etp_items.specs.Bodies.{body_of};
 ghost use Rattle.etp_items.specs.Written.{HasSize};
 
-use crate::{Body, BodyReader, BodyRefusal, body_text, lemma_line, step_line};
+use crate::{Body, BodyReader, BodyRefusal, body_text};
 use etp_proof::{Proof, Step};
 use etp_term::{Position, Side};
 use etp_text::{Text, write_term};
@@ -155,6 +155,7 @@ fn has_size(body: &Body) -> bool
         Body::Proof(_) => true,
         Body::Table(table) => table.size >= 1,
         Body::Linear(_) => true,
+        Body::Matrix(matrix) => matrix.size >= 1,
     }
 }
 
@@ -269,6 +270,73 @@ fn one_line_tells_a_linear_magma(rt: HostRuntime) {
     assert!(rt; refused(rt.alloc(), &[linear, holds]).expect(&rt, "memory") == unfinished);
 }
 
+const MATRIX: [Option<&str>; 6] = [
+    Some("matrix 2 2"),
+    Some("a 0 1"),
+    Some("a 1 1"),
+    Some("b 1 1"),
+    Some("b 1 0"),
+    Some("c 0 0"),
+];
+
+#[test]
+fn a_matrix_linear_magma_is_written_in_one_form(rt: HostRuntime) {
+    let [_, first, second, third, fourth, _] = MATRIX;
+    let lines = [
+        Some(" matrix  02\t2"),
+        first,
+        second,
+        Some("# B"),
+        third,
+        fourth,
+        Some("c 00 0"),
+        Some("holds 3 14"),
+        Some("fails 43"),
+        Some("fails 4512"),
+    ];
+    let text = "matrix 2 2\na 0 1\na 1 1\nb 1 1\nb 1 0\nc 0 0\nholds 3 14\nfails 43 4512\n";
+    assert!(rt; written(rt.alloc(), &lines, text.as_bytes()).expect(&rt, "memory"));
+}
+
+#[test]
+fn lines_of_matrices_stand_in_their_order(rt: HostRuntime) {
+    let [heading, first, second, third, fourth, last] = MATRIX;
+    let holds = Some("holds 3");
+    let fails = Some("fails 43");
+    let cases: [(&[Option<&str>], Option<BodyRefusal>); 14] = [
+        (
+            &[heading, first, second, third, fourth, last, holds, fails],
+            None,
+        ),
+        (
+            &[
+                Some("matrix 0 1"),
+                Some("a 7"),
+                Some("b 7"),
+                Some("c 7"),
+                holds,
+                fails,
+            ],
+            None,
+        ),
+        (&[Some("matrix 2 0")], bad(1)),
+        (&[Some("matrix 2 5")], bad(1)),
+        (&[Some("matrix 2")], bad(1)),
+        (&[Some("matrix 2 2 2")], bad(1)),
+        (&[first], bad(1)),
+        (&[heading, Some("a 0")], bad(2)),
+        (&[heading, Some("a 0 1 1")], bad(2)),
+        (&[heading, first, third], bad(3)),
+        (&[heading, first, second, first], bad(4)),
+        (&[heading, first, second, third, last], bad(5)),
+        (&[heading, first, second, third, fourth, holds], bad(6)),
+        (&[heading, first, second, third, fourth, last, last], bad(7)),
+    ];
+    for (lines, expected) in cases {
+        assert!(rt; refused(rt.alloc(), lines).expect(&rt, "memory") == expected);
+    }
+}
+
 #[test]
 fn bodies_are_written_in_one_form(rt: HostRuntime) {
     let plain = written(
@@ -294,19 +362,6 @@ fn bodies_are_written_in_one_form(rt: HostRuntime) {
         "proof2 4 3\ncite a\nlemma x\nstep c1 > r x\n".as_bytes(),
     );
     assert!(rt; citing.expect(&rt, "memory"));
-}
-
-#[test]
-fn lines_of_a_lemma_and_of_a_step_are_read(rt: HostRuntime) {
-    let start = lemma_line(rt.alloc(), b"lemma x * y").expect(&rt, "memory");
-    let step = step_line(rt.alloc(), b"step 7 < rl x").expect(&rt, "memory");
-    let cited = step_line(rt.alloc(), b"step c7 < rl x").expect(&rt, "memory");
-    assert!(rt; start.is_some());
-    assert!(rt; cited.is_none());
-    match step {
-        Some(step) => assert!(rt; step.line == 7 && step.reversed && step.position.len() == 2),
-        None => assert!(rt; false),
-    }
 }
 
 // What is to stand in a step: its lemma and its place there, from 0 on, the line that it names, its

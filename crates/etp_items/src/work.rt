@@ -2,16 +2,15 @@
 ghost use Rattle.std.specs.Prelude.{◌≡◌, IfOk, OnErr};
 ghost use Rattle.std.specs.Option.{option_map};
 ghost use Rattle.etp_items.specs.Bodies.{body_of};
-ghost use Rattle.etp_items.specs.BodyLines.{proof_line, BeginsNoProof};
-ghost use Rattle.etp_items.specs.Said.{line_of, proof_line_of};
+ghost use Rattle.etp_lines.specs.BodyLines.{proof_line, BeginsNoProof};
+ghost use Rattle.etp_lines.specs.Said.{line_of, proof_line_of};
 ghost use Rattle.etp_items.specs.Work.{Takes, IsWhole};
 
 use crate::body::Body;
-use crate::lines::Line;
 use crate::magma::MagmaWork;
 use crate::model::ModelWork;
-use crate::proof::lines::ProofLine;
 use crate::proof::work::ProofWork;
+use etp_lines::{Line, ProofLine};
 use etp_term::NoMemory;
 use std::alloc::Global;
 
@@ -34,7 +33,7 @@ impl Work {
             Work::Opening => Ok(self.open(alloc, said)),
             Work::Proof(work) => match said {
                 Line::Proof(said) => work.take(alloc, said),
-                Line::Table(_) | Line::Linear(_) | Line::Claim(_) => Ok(false),
+                Line::Table(_) | Line::Linear(_) | Line::Matrix(_) | Line::Claim(_) => Ok(false),
             },
             Work::Model(work) => work.take(alloc, said),
         }
@@ -47,7 +46,7 @@ impl Work {
     {
         match said {
             Line::Proof(said) => self.open_proof(alloc, said),
-            Line::Table(_) | Line::Linear(_) => self.open_magma(alloc, said),
+            Line::Table(_) | Line::Linear(_) | Line::Matrix(_) => self.open_magma(alloc, said),
             Line::Claim(_) => false,
         }
     }

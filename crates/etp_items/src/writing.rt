@@ -1,11 +1,12 @@
 // The text of a body.
 ghost use Rattle.std.specs.Prelude.{◌≡◌, ◌≤◌, IfOk};
-ghost use Rattle.etp_items.specs.Bodies.{body_of, model, table, linear, linear_in, claims_of};
+ghost use Rattle.etp_items.specs.Bodies.{body_of, model, table, linear, linear_in, matrix, matrix_in, claims_of};
 ghost use Rattle.etp_items.specs.Written.{written_body, HasSize};
 
-use crate::body::{Body, LinearBody, TableBody};
+use crate::body::{Body, LinearBody, MatrixBody, TableBody};
 use crate::claims::writing::append_claims;
 use crate::linear::writing::append_linear;
+use crate::matrix::writing::append_matrix;
 use crate::proof::writing::proof_text;
 use crate::table::writing::append_table;
 use etp_term::NoMemory;
@@ -22,6 +23,7 @@ pub fn body_text(alloc: Global, body: &Body) -> Result<Text, NoMemory>
         Body::Proof(proof) => proof_text(alloc, proof),
         Body::Table(table) => table_text(alloc, table),
         Body::Linear(linear) => linear_text(alloc, linear),
+        Body::Matrix(matrix) => matrix_text(alloc, matrix),
     }
 }
 
@@ -42,6 +44,17 @@ fn linear_text(alloc: Global, body: &LinearBody) -> Result<Text, NoMemory>
 {
     let mut text = Text::empty(alloc);
     append_linear(&mut text, body)?;
+    append_claims(&mut text, &body.claims)?;
+    Ok(text)
+}
+
+fn matrix_text(alloc: Global, body: &MatrixBody) -> Result<Text, NoMemory>
+    requires { 1 ≤ body.now.size }
+    ensures { IfOk result (λ text. text ≡ written_body
+        (model (matrix (matrix_in body.now)) (claims_of body.now.claims))) }
+{
+    let mut text = Text::empty(alloc);
+    append_matrix(&mut text, body)?;
     append_claims(&mut text, &body.claims)?;
     Ok(text)
 }

@@ -6,3 +6,4 @@ pub mod Growth
 pub mod Failing
 pub mod Judged
 pub mod Meaning
+pub mod Offences

@@ -11,7 +11,7 @@ use Rattle.etp_matrix.proofs.Failing.{fails}
 use Rattle.etp_matrix.proofs.Judged.{fails_by}
 
 -- one law has one number
-both : (laws : List Equation) (g : MatrixMagma) (n : ℕ) → LawHolds laws g n → LawFails laws g n → ⊥
+pub both : (laws : List Equation) (g : MatrixMagma) (n : ℕ) → LawHolds laws g n → LawFails laws g n → ⊥
 both laws g n h f =
     let same : Some h.law ≡ Some f.law = sym h.listed ∙ f.listed in
     let eq : h.law ≡ f.law = cc in

@@ -5,7 +5,7 @@ use Rattle.etp_theory.specs.Magmas.{IsClosed, Holds}
 use Rattle.etp_forms.specs.Forms.{coefficient}
 use Rattle.etp_matrix.specs.Magmas.{MatrixMagma, inside, times, IsMatrixMagma}
 use Rattle.etp_matrix.specs.Values.{affine, matrix_of, constant_of, product, by_columns}
-use Rattle.etp_matrix.specs.Judgements.{IsJudged, IsFirstOffence}
+use Rattle.etp_matrix.specs.Judgements.{IsJudged, IsOutOfRange, IsFirstOffence}
 use Rattle.etp_matrix.specs.declared.refusal.MatrixRefusal.{MatrixRefusal}
 
 -- modulo 2: the first row of A is 0 1 and the second 1 1; those of B are 1 1 and 1 0; c is 0 0
@@ -39,6 +39,11 @@ pub record MatrixTheorems : Type 0 where
   -- laws are judged right or have a first offence, never both
   pub not_both : (laws : List Equation) (g : MatrixMagma) (holds fails : List ℕ) (r : MatrixRefusal)
       → IsJudged laws g holds fails → IsFirstOffence laws g holds fails r → ⊥
+  pub one_offence : (laws : List Equation) (g : MatrixMagma) (holds fails : List ℕ) (r s : MatrixRefusal)
+      → IsFirstOffence laws g holds fails r → IsFirstOffence laws g holds fails s → r ≡ s
+  -- and so are its modulus and numbers in range or one is the first that isn't
+  pub in_or_out : (g : MatrixMagma) (r : MatrixRefusal) → IsMatrixMagma g → IsOutOfRange g r → ⊥
+  pub one_out_of_range : (g : MatrixMagma) (r s : MatrixRefusal) → IsOutOfRange g r → IsOutOfRange g s → r ≡ s
   -- small values, which are computed
   pub value_modulo_two : times modulo_two (1 ∷ 0 ∷ []) (1 ∷ 0 ∷ []) ≡ 1 ∷ 0 ∷ []
   pub value_modulo_five : times modulo_five (1 ∷ 2 ∷ []) (4 ∷ 3 ∷ []) ≡ 3 ∷ 4 ∷ []

@@ -1,4 +1,3 @@
-// Claims: what their lines say, the claims that the lines make, and their text.
-pub(crate) mod lines;
+// Claims: the claims that their lines make, and their text.
 pub(crate) mod work;
 pub(crate) mod writing;

@@ -1,11 +1,11 @@
 // The claims that lines make.
 ghost use Rattle.std.specs.Prelude.{◌≡◌, IfOk, OnErr};
-ghost use Rattle.etp_items.specs.Said.{claim_line_of};
+ghost use Rattle.etp_lines.specs.Said.{claim_line_of};
 ghost use Rattle.etp_items.specs.Work.{OpensClaims, TakesInClaims};
 
 use crate::body::Claims;
-use crate::claims::lines::ClaimLine;
 use etp_bits::Numbers;
+use etp_lines::ClaimLine;
 use etp_term::NoMemory;
 use std::alloc::Global;
 

@@ -1,3 +1,2 @@
-// Linear magmas: what the line of one says, and its text. One line tells the whole magma.
-pub(crate) mod lines;
+// Linear magmas: the text of one.
 pub(crate) mod writing;

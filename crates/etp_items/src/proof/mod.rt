@@ -1,4 +1,3 @@
-// Proofs: what their lines say, the proof that the lines make, and its text.
-pub(crate) mod lines;
+// Proofs: the proof that the lines make, and its text.
 pub(crate) mod work;
 pub(crate) mod writing;

@@ -2,13 +2,13 @@
 ghost use Rattle.std.specs.Prelude.{◌≡◌, IfOk, OnErr};
 ghost use Rattle.std.specs.Option.{option_map};
 ghost use Rattle.etp_items.specs.Bodies.{body_of};
-ghost use Rattle.etp_items.specs.ProofLines.{may_step};
-ghost use Rattle.etp_items.specs.Said.{version_of, proof_line_of};
+ghost use Rattle.etp_lines.specs.ProofLines.{may_step};
+ghost use Rattle.etp_lines.specs.Said.{version_of, proof_line_of};
 ghost use Rattle.etp_items.specs.Work.{OpensProof, TakesInProof, IsWhole};
 ghost use Rattle.etp_items.specs.declared.work.Work.TheVariants as Works;
 
 use crate::body::Body;
-use crate::proof::lines::{ProofLine, Version};
+use etp_lines::{ProofLine, Version};
 use etp_proof::{Cites, Label, Lemma, Lemmas, Proof, Step, Steps};
 use etp_term::{NoMemory, Term};
 use std::alloc::{AllocError, Global};

@@ -6,13 +6,13 @@ ghost use Rattle.etp_term.specs.Positions.{position_of};
 ghost use Rattle.etp_proof.specs.Lemmas.{step_of, lemma_of};
 ghost use Rattle.etp_items.specs.Bodies as Bodies;
 ghost use Rattle.etp_items.specs.Bodies.{proof_of};
-ghost use Rattle.etp_items.specs.ProofLines as Lines;
-ghost use Rattle.etp_items.specs.ProofLines.{heading, cite};
-ghost use Rattle.etp_items.specs.Said.{version_of};
+ghost use Rattle.etp_lines.specs.ProofLines as Lines;
+ghost use Rattle.etp_lines.specs.ProofLines.{heading, cite};
+ghost use Rattle.etp_lines.specs.Said.{version_of};
 ghost use Rattle.etp_items.specs.Reading.{lemma_lines};
 ghost use Rattle.etp_items.specs.Written.{reference_word, direction_word, side_letter, position_word, spaced, written_proof_lines, is_citing, version_for, written_body};
 
-use crate::proof::lines::Version;
+use etp_lines::Version;
 use etp_proof::{Label, Lemma, Proof, Step};
 use etp_term::{NoMemory, Side};
 use etp_text::Text;

@@ -1,4 +1,3 @@
-// Operation tables: what their lines say, the table that the lines make, and its text.
-pub(crate) mod lines;
+// Operation tables: the table that the lines make, and its text.
 pub(crate) mod work;
 pub(crate) mod writing;

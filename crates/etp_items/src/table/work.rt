@@ -1,11 +1,11 @@
 // The table that lines make.
 ghost use Rattle.std.specs.Prelude.{◌≡◌, IfOk, OnErr};
-ghost use Rattle.etp_items.specs.Said.{table_line_of};
+ghost use Rattle.etp_lines.specs.Said.{table_line_of};
 ghost use Rattle.etp_items.specs.Work as Works;
 ghost use Rattle.etp_items.specs.Work.{OpensTable, TakesInTable};
 
-use crate::table::lines::TableLine;
 use etp_bits::Numbers;
+use etp_lines::TableLine;
 use etp_term::NoMemory;
 use std::alloc::Global;
 

@@ -1,6 +1,7 @@
 use Rattle.std.proofs.Common.{refl}
-use Rattle.etp_items.specs.BodyLines as Lines
-use Rattle.etp_items.specs.Said.{linear_of, table_line_of}
+use Rattle.etp_lines.specs.BodyLines as Lines
+use Rattle.etp_lines.specs.Said.{linear_of, table_line_of, matrix_line_of}
+use Rattle.etp_items.proofs.MatrixLemmas.{matrix_opens}
 use Rattle.etp_items.proofs.ModelLemmas.{table_opens}
 use Rattle.etp_items.proofs.magma.MagmaWork.open.Goals as goal
 
@@ -12,3 +13,9 @@ returns-in-Table c = rw c.in-Table.is (table_opens (table_line_of c.in-Table.sai
 
 pub returns-in-Linear : goal.returns-in-Linear
 returns-in-Linear c = rw c.in-Linear.is (Lines.linear (linear_of c.in-Linear.said), refl, (refl, refl))
+
+pub returns-in_err-work-in-Matrix : goal.returns-in_err-work-in-Matrix
+returns-in_err-work-in-Matrix c = rw (c.from_residual-in_err-work-in-Matrix.ensures, c.in-Matrix.is) (rw c.in_err-work-in-Matrix.was at c.open-in-Matrix.ensures)
+
+pub returns-in-Matrix : goal.returns-in-Matrix
+returns-in-Matrix c = rw c.in-Matrix.is (matrix_opens (matrix_line_of c.in-Matrix.said) c.in_ok-work-in-Matrix.work (rw c.in_ok-work-in-Matrix.was at c.open-in-Matrix.ensures))

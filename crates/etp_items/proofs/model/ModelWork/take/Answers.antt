@@ -1,17 +1,20 @@
 use Rattle.std.proofs.Common.{◌≡◌, ◌⊎◌, inl, inr, sym, subst, ◌∙◌}
-use Rattle.etp_items.specs.Said.{line_of, claim_line_of}
-use Rattle.etp_items.specs.declared.lines.Line.{Line}
-use Rattle.etp_items.specs.declared.lines.Line.TheVariants as Spoken
-use Rattle.etp_items.specs.declared.linear.lines.LinearLine.{LinearLine}
-use Rattle.etp_items.specs.declared.proof.lines.ProofLine.{ProofLine}
-use Rattle.etp_items.specs.declared.table.lines.TableLine.{TableLine}
+use Rattle.etp_lines.specs.Said.{line_of, claim_line_of}
+use Rattle.etp_lines.specs.declared.line.Line.{Line}
+use Rattle.etp_lines.specs.declared.line.Line.TheVariants as Spoken
+use Rattle.etp_lines.specs.declared.linear.LinearLine.{LinearLine}
+use Rattle.etp_lines.specs.declared.matrix.MatrixLine.{MatrixLine}
+use Rattle.etp_lines.specs.declared.proof.ProofLine.{ProofLine}
+use Rattle.etp_lines.specs.declared.table.TableLine.{TableLine}
 use Rattle.etp_items.proofs.ModelLemmas.{IsNoClaim, head_takes_at, head_kept, claims_take_ok}
 use Rattle.etp_items.proofs.model.ModelWork.take.Goals as goal
 
-no_claim : (said : Line) → ((l : ProofLine) × (said ≡ Spoken.Proof l)) ⊎ ((l : TableLine) × (said ≡ Spoken.Table l)) ⊎ ((l : LinearLine) × (said ≡ Spoken.Linear l)) → IsNoClaim (line_of said)
+no_claim : (said : Line) → ((l : ProofLine) × (said ≡ Spoken.Proof l)) ⊎ ((l : TableLine) × (said ≡ Spoken.Table l)) ⊎ ((l : LinearLine) × (said ≡ Spoken.Linear l))
+    ⊎ ((l : MatrixLine) × (said ≡ Spoken.Matrix l)) → IsNoClaim (line_of said)
 no_claim said (inl (l, e)) = subst (λ (z : Line). IsNoClaim (line_of z)) (sym e) tt
 no_claim said (inr (inl (l, e))) = subst (λ (z : Line). IsNoClaim (line_of z)) (sym e) tt
-no_claim said (inr (inr (l, e))) = subst (λ (z : Line). IsNoClaim (line_of z)) (sym e) tt
+no_claim said (inr (inr (inl (l, e)))) = subst (λ (z : Line). IsNoClaim (line_of z)) (sym e) tt
+no_claim said (inr (inr (inr (l, e)))) = subst (λ (z : Line). IsNoClaim (line_of z)) (sym e) tt
 
 pub returns-else-is_some : goal.returns-else-is_some
 returns-else-is_some c = record {

@@ -1,5 +1,5 @@
 use Rattle.std.proofs.Common.{◌∙◌}
-use Rattle.etp_items.specs.ProofLines.{cite}
+use Rattle.etp_lines.specs.ProofLines.{cite}
 use Rattle.etp_items.proofs.WrittenLemmas.{more_lines}
 use Rattle.etp_items.proofs.proof.writing.append_cites.Goals as goal
 

@@ -1,5 +1,5 @@
 use Rattle.std.proofs.Common.{◌≡◌, ◌++◌, map, take}
-use Rattle.etp_items.specs.ProofLines.{cite}
+use Rattle.etp_lines.specs.ProofLines.{cite}
 use Rattle.etp_items.specs.Written.{written_proof_lines}
 use Rattle.etp_items.proofs.proof.writing.append_cites.Given as goal
 

@@ -1,6 +1,6 @@
 use Rattle.std.proofs.Common.{◌≡◌, ◌++◌, map, take}
 use Rattle.etp_proof.specs.Lemmas.{step_of}
-use Rattle.etp_items.specs.ProofLines.{step}
+use Rattle.etp_lines.specs.ProofLines.{step}
 use Rattle.etp_items.specs.Written.{written_proof_lines}
 use Rattle.etp_items.proofs.proof.writing.append_steps.Given as goal
 

@@ -3,7 +3,7 @@ use Rattle.etp_proof.specs.Lemmas.{lemma_of}
 use Rattle.etp_proof.specs.declared.proof.Lemma.{Lemma}
 use Rattle.etp_proof.specs.declared.label.Label.{Label}
 use Rattle.etp_items.specs.Bodies.{proof_of}
-use Rattle.etp_items.specs.ProofLines.{heading, cite}
+use Rattle.etp_lines.specs.ProofLines.{heading, cite}
 use Rattle.etp_items.specs.Reading.{lemma_lines}
 use Rattle.etp_items.specs.Written.{version_for, written_proof_lines}
 use Rattle.etp_items.proofs.WrittenLemmas.{whole_text}

@@ -1,5 +1,5 @@
 use Rattle.std.proofs.Common.{refl}
-use Rattle.etp_items.specs.Said.{line_of}
+use Rattle.etp_lines.specs.Said.{line_of}
 use Rattle.etp_items.proofs.ReaderLemmas.{no_place}
 use Rattle.etp_items.proofs.reader.BodyReader.take.Goals as goal
 

@@ -1,4 +1,4 @@
-use Rattle.etp_items.specs.Said.{line_of}
+use Rattle.etp_lines.specs.Said.{line_of}
 use Rattle.etp_items.proofs.ModelLemmas.{magma_opens, magma_stays_shut}
 use Rattle.etp_items.proofs.work.Work.open_magma.Goals as goal
 

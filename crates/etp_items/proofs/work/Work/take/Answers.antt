@@ -1,4 +1,4 @@
-use Rattle.etp_items.specs.Said.{proof_line_of}
+use Rattle.etp_lines.specs.Said.{proof_line_of}
 use Rattle.etp_items.proofs.ReaderLemmas.{proof_takes_ok}
 use Rattle.etp_items.proofs.work.Work.take.Goals as goal
 

@@ -1,6 +1,6 @@
 use Rattle.std.proofs.Common.{refl, ap, ◌≡◌}
-use Rattle.etp_items.specs.Said.{claim_line_of}
-use Rattle.etp_items.specs.Claims.{holds}
+use Rattle.etp_lines.specs.Said.{claim_line_of}
+use Rattle.etp_lines.specs.Claims.{holds}
 use Rattle.etp_items.proofs.ModelLemmas.{claims_opened}
 use Rattle.etp_items.proofs.claims.work.ClaimsWork.open.Goals as goal
 

@@ -1,6 +1,6 @@
 use Rattle.std.proofs.Common.{map}
-use Rattle.etp_items.specs.ProofLines.{heading, cite}
-use Rattle.etp_items.specs.Said.{version_of}
+use Rattle.etp_lines.specs.ProofLines.{heading, cite}
+use Rattle.etp_lines.specs.Said.{version_of}
 use Rattle.etp_items.proofs.WorkLemmas.{lemma_taken}
 use Rattle.etp_items.proofs.proof.work.ProofWork.take_lemma.Goals as goal
 

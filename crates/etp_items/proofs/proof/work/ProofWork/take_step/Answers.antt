@@ -1,7 +1,7 @@
 use Rattle.std.proofs.Common.{◌<◌, length, map, arith, rules, ◌≡◌, true}
-use Rattle.etp_items.specs.ProofLines.{heading, cite}
-use Rattle.etp_items.specs.Said.{version_of}
-use Rattle.etp_items.specs.ProofLines.{may_step}
+use Rattle.etp_lines.specs.ProofLines.{heading, cite}
+use Rattle.etp_lines.specs.Said.{version_of}
+use Rattle.etp_lines.specs.ProofLines.{may_step}
 use Rattle.etp_items.proofs.WorkLemmas.{step_taken}
 use Rattle.etp_items.proofs.proof.work.ProofWork.take_step.Goals as goal
 

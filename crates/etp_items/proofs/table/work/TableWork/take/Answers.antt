@@ -1,6 +1,6 @@
 use Rattle.std.proofs.Common.{◌≡◌, ◌<◌, ◌++◌, length, refl, ap, ◌∙◌, arith}
-use Rattle.etp_items.specs.Said.{table_line_of}
-use Rattle.etp_items.specs.TableLines.{row}
+use Rattle.etp_lines.specs.Said.{table_line_of}
+use Rattle.etp_lines.specs.TableLines.{row}
 use Rattle.etp_items.proofs.ModelLemmas.{row_taken}
 use Rattle.etp_items.proofs.table.work.TableWork.take.Goals as goal
 

@@ -1,0 +1,3 @@
+// Matrix-linear magmas: the magma that the lines make, and its text.
+pub(crate) mod work;
+pub(crate) mod writing;
