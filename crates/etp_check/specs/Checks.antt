@@ -10,8 +10,10 @@ use Rattle.etp_table.specs.Tables.{IsTable}
 use Rattle.etp_table.specs.Judgements.{IsJudged}
 use Rattle.etp_linear.specs.Magmas.{IsLinearMagma}
 use Rattle.etp_linear.specs.Judgements as Linears
-use Rattle.etp_items.specs.Claims.{Claims}
-use Rattle.etp_items.specs.Bodies.{FileBody, ProofBody, Model, table, linear, proof, model}
+use Rattle.etp_matrix.specs.Magmas.{IsShape, IsMatrixMagma}
+use Rattle.etp_matrix.specs.Judgements as Matrices
+use Rattle.etp_lines.specs.Claims.{Claims}
+use Rattle.etp_items.specs.Bodies.{FileBody, ProofBody, Model, table, linear, matrix, proof, model}
 
 -- a proof says that its hypothesis implies its goal, a magma that no law that holds implies one that fails
 abbrev pub fact_said : FileBody → Fact
@@ -32,10 +34,11 @@ abbrev pub IsListedBody : List Equation → FileBody → Type 0
 IsListedBody laws (proof p) = HasListedLaws laws p
 IsListedBody laws (model m claims) = HasListedClaims laws claims
 
--- a table has size times size entries
+-- a table has size times size entries, and matrices and c have as many as their size wants
 abbrev pub HasModelContent : Model → Type 0
 HasModelContent (table size entries) = (1 ≤ size) × (length entries ≡ size * size)
 HasModelContent (linear l) = Unit {0}
+HasModelContent (matrix g) = IsShape g.size g.a g.b g.c
 
 -- a proof has a lemma
 abbrev pub HasContent : FileBody → Type 0
@@ -69,6 +72,7 @@ IsRightModel laws (table size entries) claims =
     IsTable (record { size = size; entries = entries })
     × IsJudged laws (record { size = size; entries = entries }) claims.holds claims.fails
 IsRightModel laws (linear l) claims = IsLinearMagma l × Linears.IsJudged laws l claims.holds claims.fails
+IsRightModel laws (matrix g) claims = IsMatrixMagma g × Matrices.IsJudged laws g claims.holds claims.fails
 
 -- with the laws of the cited numbers a proof derives its goal step by step; a magma is right
 abbrev pub IsRightBody : List Equation → FileBody → List ℕ → Type 0

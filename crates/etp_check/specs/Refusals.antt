@@ -2,35 +2,56 @@
 use Rattle.std.specs.Prelude.{◌≡◌, ◌⊎◌, ℕ, List, map}
 use Rattle.etp_laws.specs.LawLists.{LawList}
 use Rattle.etp_theory.specs.Trees.{Equation}
-use Rattle.etp_replay.specs.Validity as Replay
+use Rattle.etp_replay.specs.Validity as Replays
 use Rattle.etp_replay.specs.Validity.{law_at}
-use Rattle.etp_table.specs.Tables.{IsTable}
+use Rattle.etp_replay.specs.declared.refusal.ReplayRefusal.{ReplayRefusal}
+use Rattle.etp_table.specs.Tables.{Table, IsTable}
 use Rattle.etp_table.specs.Entries.{IsFirstWrong}
-use Rattle.etp_table.specs.Judgements.{IsFirstOffence}
-use Rattle.etp_linear.specs.Magmas.{IsLinearMagma}
+use Rattle.etp_table.specs.Judgements as Tables
+use Rattle.etp_table.specs.declared.refusal.TableRefusal.{TableRefusal}
+use Rattle.etp_linear.specs.Magmas.{LinearMagma, IsLinearMagma}
 use Rattle.etp_linear.specs.Judgements as Linears
-use Rattle.etp_items.specs.Claims.{Claims}
-use Rattle.etp_items.specs.Bodies.{FileBody, Model, table, linear, proof, model}
+use Rattle.etp_linear.specs.declared.refusal.LinearRefusal.{LinearRefusal}
+use Rattle.etp_matrix.specs.Magmas.{MatrixMagma, IsMatrixMagma}
+use Rattle.etp_matrix.specs.Judgements as Matrices
+use Rattle.etp_matrix.specs.declared.refusal.MatrixRefusal.{MatrixRefusal}
+use Rattle.etp_lines.specs.Claims.{Claims}
+use Rattle.etp_items.specs.Bodies.{FileBody, Model, table, linear, matrix, proof, model}
 use Rattle.etp_check.specs.declared.refusal.CheckRefusal.{CheckRefusal}
-use Rattle.etp_check.specs.declared.refusal.CheckRefusal.TheVariants.{Replay, Table, Linear, NoMemory}
+use Rattle.etp_check.specs.declared.refusal.CheckRefusal.TheVariants as Program
+use Rattle.etp_check.specs.declared.refusal.CheckRefusal.TheVariants.{Replay, Linear, Matrix, NoMemory}
 
--- the first offence of a magma: of a table its first entry that isn't below the size, or else the first
--- law that isn't as it is to be; of a linear magma its first number that is out of range, or else such a law
-abbrev pub IsModelOffence : List Equation → Model → Claims → CheckRefusal → Type 0
-IsModelOffence laws (table size entries) claims (Table r) =
-    IsFirstWrong size entries r
-    ⊎ (IsTable (record { size = size; entries = entries })
-    × IsFirstOffence laws (record { size = size; entries = entries }) claims.holds claims.fails r)
-IsModelOffence laws (linear l) claims (Linear r) =
+-- of a table: its first entry that isn't below the size, or else the first law that isn't as it is to be
+abbrev pub IsTableOffence : List Equation → Table → Claims → TableRefusal → Type 0
+IsTableOffence laws t claims r =
+    IsFirstWrong t.size t.entries r ⊎ (IsTable t × Tables.IsFirstOffence laws t claims.holds claims.fails r)
+
+-- of a linear magma: its first number that is out of range, or else the first such law
+abbrev pub IsLinearOffence : List Equation → LinearMagma → Claims → LinearRefusal → Type 0
+IsLinearOffence laws l claims r =
     Linears.IsOutOfRange l r ⊎ (IsLinearMagma l × Linears.IsFirstOffence laws l claims.holds claims.fails r)
-IsModelOffence laws _ claims _ = ⊥
 
--- the first offence of a proof: a wrong step, or else another goal than the one named; or that of a magma
+-- of a matrix-linear magma: its modulus or its first number that is out of range, or else the first such law
+abbrev pub IsMatrixOffence : List Equation → MatrixMagma → Claims → MatrixRefusal → Type 0
+IsMatrixOffence laws g claims r =
+    Matrices.IsOutOfRange g r ⊎ (IsMatrixMagma g × Matrices.IsFirstOffence laws g claims.holds claims.fails r)
+
+-- the refusal says the first offence of a magma
+abbrev pub IsModelOffence : List Equation → Model → Claims → CheckRefusal → Type 0
+IsModelOffence laws (table size entries) claims r =
+    (t : TableRefusal) × (r ≡ Program.Table t)
+    × IsTableOffence laws (record { size = size; entries = entries }) claims t
+IsModelOffence laws (linear l) claims r =
+    (t : LinearRefusal) × (r ≡ Linear t) × IsLinearOffence laws l claims t
+IsModelOffence laws (matrix g) claims r =
+    (t : MatrixRefusal) × (r ≡ Matrix t) × IsMatrixOffence laws g claims t
+
+-- that of a proof, a wrong step or else another goal than the one named; or that of a magma
 abbrev pub IsBodyOffence : LawList → FileBody → List ℕ → CheckRefusal → Type 0
-IsBodyOffence l (proof p) cited (Replay r) =
-    Replay.IsFirstOffence l (law_at l.equations p.hypothesis) (law_at l.equations p.goal)
-    (map (law_at l.equations) cited) p.lemmas r
-IsBodyOffence l (proof p) cited _ = ⊥
+IsBodyOffence l (proof p) cited r =
+    (t : ReplayRefusal) × (r ≡ Replay t)
+    × Replays.IsFirstOffence l (law_at l.equations p.hypothesis) (law_at l.equations p.goal)
+    (map (law_at l.equations) cited) p.lemmas t
 IsBodyOffence l (model m claims) cited r = IsModelOffence l.equations m claims r
 
 -- want of memory, or the first offence of a body with these cited numbers

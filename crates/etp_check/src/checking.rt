@@ -2,16 +2,18 @@ ghost use Rattle.std.specs.Prelude.{◌≡◌, ◌≤◌, ◌*◌, ℕ, IfOk, If
 ghost use Rattle.etp_theory.specs.LawNumbers.{law_numbered};
 ghost use Rattle.etp_theory.specs.Reach.{refutes};
 ghost use Rattle.etp_closure.specs.Facts.{fact_of};
-ghost use Rattle.etp_items.specs.Bodies.{body_of, proof_of, linear_in, claims_of, proof, model, table, linear};
+ghost use Rattle.etp_matrix.specs.Magmas.{IsShape};
+ghost use Rattle.etp_items.specs.Bodies.{body_of, proof_of, linear_in, matrix_in, claims_of, proof, model, table, linear, matrix};
 ghost use Rattle.etp_check.specs.Checks.{fact_said, IsListedBody, HasContent, AreCitedNumbers, IsValidBody, IsRightBody, IsRightModel, SaysRight};
 ghost use Rattle.etp_check.specs.Refusals.{IsCheckRefused};
 
 use crate::refusal::CheckRefusal;
 use etp_bits::Numbers;
 use etp_closure::Fact;
-use etp_items::{Body, Claims, LinearBody, TableBody};
+use etp_items::{Body, Claims, LinearBody, MatrixBody, TableBody};
 use etp_laws::Laws;
 use etp_linear::Linear;
+use etp_matrix::MatrixLinear;
 use etp_proof::Proof;
 use etp_replay::replay;
 use etp_table::OpTable;
@@ -34,6 +36,7 @@ pub fn check(alloc: Global, laws: &Laws, body: &Body, cited: &[u32]) -> Result<F
         Body::Proof(proof) => check_proof(alloc, laws, proof, cited),
         Body::Table(table) => check_table(alloc, laws, table, cited),
         Body::Linear(linear) => check_linear(alloc, laws, linear, cited),
+        Body::Matrix(matrix) => check_matrix(alloc, laws, matrix, cited),
     }
 }
 
@@ -112,6 +115,35 @@ fn check_linear(
     match linear.judge(laws, claims.holds.as_slice(), claims.fails.as_slice()) {
         Ok(()) => Ok(refutation(alloc, claims)?),
         Err(refusal) => Err(CheckRefusal::Linear(refusal)),
+    }
+}
+
+fn check_matrix(
+    alloc: Global,
+    laws: &Laws,
+    body: &MatrixBody,
+    cited: &[u32],
+) -> Result<Fact, CheckRefusal>
+    requires shape { IsShape body.now.size body.now.a body.now.b body.now.c }
+    requires holds { All (λ n. IsSome (law_numbered laws.now.equations n)) body.now.claims.holds }
+    requires fails { All (λ n. IsSome (law_numbered laws.now.equations n)) body.now.claims.fails }
+    ensures fact { IfOk result (λ fact. fact_of fact
+        ≡ fact_said (model (matrix (matrix_in body.now)) (claims_of body.now.claims))) }
+    ensures right { OnOk result (IsRightModel laws.now.equations
+        (matrix (matrix_in body.now)) (claims_of body.now.claims)) }
+    ensures err { IfErr result (λ r. IsCheckRefused laws.now
+        (model (matrix (matrix_in body.now)) (claims_of body.now.claims)) cited.now r) }
+{
+    let a = body.a.as_slice();
+    let b = body.b.as_slice();
+    let matrix = match MatrixLinear::of(body.modulus, body.size, a, b, body.c.as_slice()) {
+        Ok(matrix) => matrix,
+        Err(refusal) => return Err(CheckRefusal::Matrix(refusal)),
+    };
+    let claims = &body.claims;
+    match matrix.judge(laws, claims.holds.as_slice(), claims.fails.as_slice()) {
+        Ok(()) => Ok(refutation(alloc, claims)?),
+        Err(refusal) => Err(CheckRefusal::Matrix(refusal)),
     }
 }
 

@@ -2,6 +2,7 @@ ghost use Rattle.std.specs.Prelude.{◌≡◌, ◌≢◌, ◌⊎◌};
 ghost use Rattle.etp_check.specs.declared.refusal.CheckRefusal.TheVariants.{NoMemory};
 
 use etp_linear::LinearRefusal;
+use etp_matrix::MatrixRefusal;
 use etp_replay::ReplayRefusal;
 use etp_table::TableRefusal;
 use std::alloc::AllocError;
@@ -19,6 +20,9 @@ pub enum CheckRefusal {
     /// The first offence of a linear magma and its claims.
     #[error("the linear magma isn't valid")]
     Linear(LinearRefusal),
+    /// The first offence of a matrix-linear magma and its claims.
+    #[error("the matrix-linear magma isn't valid")]
+    Matrix(MatrixRefusal),
     /// Want of memory.
     #[error("out of memory")]
     NoMemory,

@@ -14,3 +14,7 @@ returns-in-Table-clause-right c =
 pub returns-in-Linear-clause-right : goal.returns-in-Linear-clause-right
 returns-in-Linear-clause-right c =
     says_right c.check_linear.result c.args.laws.now.equations (body_of c.args.body.now) c.args.cited.now c.requires.listed c.requires.content c.requires.cited (search rules)
+
+pub returns-in-Matrix-clause-right : goal.returns-in-Matrix-clause-right
+returns-in-Matrix-clause-right c =
+    says_right c.check_matrix.result c.args.laws.now.equations (body_of c.args.body.now) c.args.cited.now c.requires.listed c.requires.content c.requires.cited (search rules)
