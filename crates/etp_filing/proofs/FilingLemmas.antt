@@ -13,7 +13,7 @@ use Rattle.etp_theory.specs.Trees.{Equation}
 use Rattle.etp_laws.proofs.Entries.{entry_after}
 use Rattle.etp_theory.specs.LawNumbers.{law_numbered, IsLaw}
 use Rattle.etp_words.specs.Words.{words_of, are_blank}
-use Rattle.etp_items.specs.Bodies.{FileBody, table, linear, proof, model}
+use Rattle.etp_items.specs.Bodies.{FileBody, table, linear, matrix, proof, model}
 use Rattle.etp_items.specs.Reading.{IsBody, IsReadBody}
 use Rattle.etp_items.proofs.Writable.{body_writable}
 use Rattle.etp_items.proofs.ReadAgain.{listed_numbers}
@@ -126,6 +126,7 @@ body-content lines (proof p) h = (body_writable lines (proof p) h).0
 body-content lines (model (table size entries) claims) h =
     let w = (body_writable lines (model (table size entries) claims) h).0 in (w.0, w.2)
 body-content lines (model (linear l) claims) h = tt
+body-content lines (model (matrix g) claims) h = (body_writable lines (model (matrix g) claims) h).0.shape
 
 entry-there : (laws : List Equation) (n : ℕ) → 1 ≤ n → n ≤ length laws → IsSome (law_numbered laws n)
 entry-there laws n h k =

@@ -20,7 +20,7 @@ use Rattle.etp_ledger.proofs.Verdicts as Verdict
 use Rattle.etp_print.specs.Texts.{Reply, answered, refused, refused_file}
 use Rattle.etp_print.specs.RefusalTexts.{body_refusal, file_refusal}
 use Rattle.etp_desk.specs.States.{Opened, Filing, State, over}
-use Rattle.etp_filing.specs.FileReplies.{FileReply, no_name, name_taken, not_built, no_body, not_accepted, accepted, BodyReply, goes_on, closes, HasNoName, HasFreeName, accepted_line}
+use Rattle.etp_filing.specs.FileReplies.{FileReply, no_name, name_taken, not_built, no_body, not_accepted, accepted, BodyReply, goes_on, closes, HasNoName, HasFreeName, vector_size, accepted_line}
 use Rattle.etp_filing.specs.Withdrawals.{WithdrawReply, no_name as no_such_word, unknown_name, cited, withdrawn}
 
 -- what two replies to a file have in common
@@ -61,12 +61,13 @@ two-refused : (o : Opened) (f : Filing) (closed : Bool) → IsTheList o.laws.ord
     → HasFreeName o.files f.word n → HasFreeName o.files f.word m
     → IsReadBody (length o.laws.equations) f.lines closed b → IsReadBody (length o.laws.equations) f.lines closed c
     → IsFileRefused o.laws o.files n b r → IsFileRefused o.laws o.files m c s → r ≢ NoMemory → s ≢ NoMemory
-    → refused_file n (file_refusal r) ≡ refused_file m (file_refusal s)
+    → refused_file n (file_refusal (vector_size b) r) ≡ refused_file m (file_refusal (vector_size c) s)
 two-refused o f closed l n m b c r s v w q p h k x y =
     let name : m ≡ n = same_name f.word m n w.word_is v.word_is in
     let body : c ≡ b = body_theorems.one_body f.lines c b p.is_body q.is_body in
     let there : IsFileRefused o.laws o.files n b s = subst (λ (d : FileBody). IsFileRefused o.laws o.files n d s) body (subst (λ (i : List ℕ). IsFileRefused o.laws o.files i c s) name k) in
-    ap (λ (t : LedgerRefusal). refused_file n (file_refusal t)) (file_refusal-only o.laws o.files n b r s l h there x y) ∙ ap (λ (i : List ℕ). refused_file i (file_refusal s)) (sym name)
+    ap (λ (t : LedgerRefusal). refused_file n (file_refusal (vector_size b) t)) (file_refusal-only o.laws o.files n b r s l h there x y)
+    ∙ ap (λ (d : FileBody). refused_file n (file_refusal (vector_size d) s)) (sym body) ∙ ap (λ (i : List ℕ). refused_file i (file_refusal (vector_size c) s)) (sym name)
 
 refused-accepted : (o : Opened) (f : Filing) (closed : Bool) (n m : List ℕ) (b c : FileBody) (r : LedgerRefusal)
     → HasFreeName o.files f.word n → HasFreeName o.files f.word m

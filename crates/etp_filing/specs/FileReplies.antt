@@ -4,7 +4,7 @@ use Rattle.std.specs.declared.option.Option.{Option}
 use Rattle.std.specs.List.{list_any}
 use Rattle.etp_io.specs.Texts.{LineText, whole, too_long}
 use Rattle.etp_proof.specs.Names.{IsName}
-use Rattle.etp_items.specs.Bodies.{FileBody}
+use Rattle.etp_items.specs.Bodies.{FileBody, matrix, model}
 use Rattle.etp_items.specs.Reading.{IsReadBody, Refuses}
 use Rattle.etp_reading.specs.declared.refusal.BodyRefusal.{BodyRefusal}
 use Rattle.etp_check.specs.Checks.{fact_said}
@@ -60,6 +60,11 @@ pub record HasFreeName (files : List File) (word : Option (List ℕ)) (name : Li
   pub is_name : IsName name
   pub free : body_named name files ≡ None
 
+-- how many numbers a vector of the body has, where it has matrices; else 0
+abbrev pub vector_size : FileBody → ℕ
+vector_size (model (matrix g) claims) = g.size
+vector_size _ = 0
+
 -- what an accepted file says
 abbrev pub said_text : Fact → List ℕ
 said_text (implies hypothesis goal) = codes "implies" ++ codes " " ++ decimal hypothesis ++ codes " " ++ decimal goal
@@ -84,7 +89,7 @@ pub data FileReply (o : Opened) (f : Filing) (closed : Bool) (reply : Reply) (af
       → reply ≡ refused_file name (body_refusal r) → after ≡ o.files → FileReply o f closed reply after
   not_accepted : (name : List ℕ) (body : FileBody) (r : LedgerRefusal) → HasFreeName o.files f.word name → names_unbuilt f.lines ≡ false
       → IsReadBody (length o.laws.equations) f.lines closed body → IsFileRefused o.laws o.files name body r → r ≢ NoMemory
-      → reply ≡ refused_file name (file_refusal r) → after ≡ o.files → FileReply o f closed reply after
+      → reply ≡ refused_file name (file_refusal (vector_size body) r) → after ≡ o.files → FileReply o f closed reply after
   accepted : (name : List ℕ) (body : FileBody) → HasFreeName o.files f.word name → names_unbuilt f.lines ≡ false
       → IsReadBody (length o.laws.equations) f.lines closed body → IsAccepted o.laws.equations o.files name body
       → reply ≡ answered (accepted_line name (fact_said body)) → after ≡ o.files ++ record { name = name; body = body } ∷ [] → FileReply o f closed reply after

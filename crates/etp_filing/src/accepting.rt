@@ -1,5 +1,5 @@
 // The reply to a file whose body is over.
-ghost use Rattle.std.specs.Prelude.{◌≡◌, ◌≢◌, ◌++◌, [], Bool, false, true, length, IfOk, OnOk, codes, decimal};
+ghost use Rattle.std.specs.Prelude.{◌≡◌, ◌≢◌, ◌≤◌, ◌++◌, [], Bool, false, true, length, IfOk, OnOk, codes, decimal};
 ghost use Rattle.etp_items.specs.Bodies.{body_of};
 ghost use Rattle.etp_items.specs.Reading.{IsReadBody};
 ghost use Rattle.etp_check.specs.Checks.{fact_said, IsListedBody, HasContent};
@@ -7,7 +7,7 @@ ghost use Rattle.etp_print.specs.Texts.{reply_text, refused_file};
 ghost use Rattle.etp_print.specs.RefusalTexts.{body_refusal, file_refusal};
 ghost use Rattle.etp_desk.specs.States.{Filing as FilingOf};
 ghost use Rattle.etp_desk.specs.Desks.{opened_of, Agrees, Leaves};
-ghost use Rattle.etp_filing.specs.FileReplies.{HasFreeName, names_unbuilt, said_text, accepted_with};
+ghost use Rattle.etp_filing.specs.FileReplies.{HasFreeName, names_unbuilt, vector_size, said_text, accepted_with};
 ghost use Rattle.etp_filing.specs.Filings.{words_from, IsReading, IsFiling, GivesFile};
 
 use crate::filing::{Filing, Pending};
@@ -41,6 +41,22 @@ fn laws_said(body: &Body) -> Said
             holds: linear.claims.holds.len(),
             fails: linear.claims.fails.len(),
         },
+        Body::Matrix(matrix) => Said::Refutes {
+            holds: matrix.claims.holds.len(),
+            fails: matrix.claims.fails.len(),
+        },
+    }
+}
+
+// How many numbers a vector of the body has, where it has matrices; else 0.
+fn vector_size(body: &Body) -> u8
+    requires { HasContent (body_of body.now) }
+    ensures size { result ≡ vector_size (body_of body.now) }
+    ensures small { result ≤ 4 }
+{
+    match body {
+        Body::Matrix(matrix) => matrix.size,
+        Body::Proof(_) | Body::Table(_) | Body::Linear(_) => 0,
     }
 }
 
@@ -95,13 +111,16 @@ fn refuse_content(
     text: &mut Text,
     line: u64,
     name: &[u8],
+    size: u8,
     refusal: &LedgerRefusal,
 ) -> Result<bool, AllocError>
-    requires { text.old ≡ [] }
-    ensures reply { IfOk result (λ refused. (text.new ≡ reply_text line (refused_file name.now (file_refusal refusal.now))) × (refused ≡ true)) }
+    requires empty { text.old ≡ [] }
+    requires small { size ≤ 4 }
+    ensures reply { IfOk result (λ refused. (text.new
+        ≡ reply_text line (refused_file name.now (file_refusal size refusal.now))) × (refused ≡ true)) }
     ensures cause { OnOk result (refusal.now ≢ LedgerRefusal.NoMemory) }
 {
-    let why = file_refusal_text(alloc, refusal)?;
+    let why = file_refusal_text(alloc, size, refusal)?;
     refuse_file(text, line, name, why.as_slice())
 }
 
@@ -176,11 +195,12 @@ fn accept_file(
     let mut label = Text::empty(alloc);
     label.append(name.as_slice())?;
     let said = laws_said(&body);
+    let size = vector_size(&body);
     match opened.ledger.accept(&opened.laws, name, body) {
         Ok(()) => {
             append_accepted(text, label.as_slice(), said)?;
             Ok(false)
         }
-        Err(refusal) => refuse_content(alloc, text, number, label.as_slice(), &refusal),
+        Err(refusal) => refuse_content(alloc, text, number, label.as_slice(), size, &refusal),
     }
 }

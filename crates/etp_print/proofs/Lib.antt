@@ -1,3 +1,4 @@
 pub mod TextLemmas
 pub mod GivenLemmas
 pub mod Values
+pub mod Commas

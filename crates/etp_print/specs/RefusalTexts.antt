@@ -1,5 +1,5 @@
 -- The texts of refusals.
-use Rattle.std.specs.Prelude.{ℕ, ℤ, ◌+◌, List, [], ◌∷◌, ◌++◌, codes, decimal, Option, None, Some}
+use Rattle.std.specs.Prelude.{ℕ, ℤ, ◌+◌, List, [], ◌∷◌, ◌++◌, take, codes, decimal, Option, None, Some}
 use Rattle.std.specs.Fmt.{signed_decimal}
 use Rattle.etp_laws.specs.declared.laws.Numbered.{Numbered}
 use Rattle.etp_laws.specs.declared.laws.Numbered.TheVariants.{Is, Trivial, TooManyOps}
@@ -21,6 +21,11 @@ use Rattle.etp_linear.specs.declared.parts.Which.TheVariants.{Modulus, A, B, C}
 use Rattle.etp_linear.specs.declared.parts.LinearFailure.{LinearFailure}
 use Rattle.etp_linear.specs.declared.refusal.LinearRefusal.{LinearRefusal}
 use Rattle.etp_linear.specs.declared.refusal.LinearRefusal.TheVariants as Linear
+use Rattle.etp_matrix.specs.declared.parts.Part.{Part}
+use Rattle.etp_matrix.specs.declared.parts.MatrixFailure.{MatrixFailure}
+use Rattle.etp_matrix.specs.declared.refusal.MatrixRefusal.{MatrixRefusal}
+use Rattle.etp_matrix.specs.declared.refusal.MatrixRefusal.TheVariants as Matrix
+use Rattle.etp_lines.specs.MatrixLines.{part_word}
 use Rattle.etp_replay.specs.declared.refusal.ReplayRefusal.TheVariants.{Reference, NoPlace, OutsideChanged, NoMatch, GoalDiffers, Citation, NoMemory}
 
 -- why the text of a law is refused
@@ -113,16 +118,50 @@ linear_refusal (Linear.Coefficient which value) = coefficient_text which value
 linear_refusal (Linear.HoldsFails law failure) = codes "holds fails law " ++ decimal law ++ failure_text failure
 linear_refusal (Linear.FailsHolds law) = codes "fails holds law " ++ decimal law
 
--- why a body isn't valid
-abbrev pub check_refusal : CheckRefusal → List ℕ
-check_refusal (Checked.Replay r) = replay_refusal r
-check_refusal (Checked.Table r) = table_refusal r
-check_refusal (Checked.Linear r) = linear_refusal r
-check_refusal Checked.NoMemory = []
+-- numbers, each behind a comma
+abbrev pub comma_behind : List ℕ → List ℕ
+comma_behind [] = []
+comma_behind (number ∷ numbers) = 44 ∷ (decimal number ++ comma_behind numbers)
+
+-- numbers, with a comma between two
+abbrev pub with_commas : List ℕ → List ℕ
+with_commas [] = []
+with_commas (number ∷ numbers) = decimal number ++ comma_behind numbers
+
+-- all zero, or the variable that is a unit vector while all others are zero, behind a space
+abbrev pub unit_vector_text : Option (ℕ × ℕ) → List ℕ
+unit_vector_text None = codes " zero"
+unit_vector_text (Some p) = codes " " ++ variable_name p.0 ++ codes "=e" ++ decimal p.1
+
+-- the vectors of both sides
+abbrev pub vectors_text : ℕ → MatrixFailure → List ℕ
+vectors_text size f =
+    codes " left " ++ with_commas (take size f.left) ++ codes " right " ++ with_commas (take size f.right)
+
+-- a number that is out of range, and its place
+abbrev pub matrix_entry_text : Part → ℕ → ℕ → ℕ → List ℕ
+matrix_entry_text part row column value =
+    codes "matrix entry " ++ part_word part ++ codes " row " ++ decimal row ++ codes " column " ++ decimal column ++ codes " value " ++ decimal value
+
+-- why a matrix-linear magma over vectors of so many numbers is refused
+abbrev pub matrix_refusal : ℕ → MatrixRefusal → List ℕ
+matrix_refusal size (Matrix.Modulus value) = codes "modulus value " ++ decimal value
+matrix_refusal size (Matrix.Entry part row column value) = matrix_entry_text part row column value
+matrix_refusal size (Matrix.HoldsFails law failure) =
+    codes "holds fails law " ++ decimal law ++ unit_vector_text failure.at ++ vectors_text size failure
+matrix_refusal size (Matrix.FailsHolds law) = codes "fails holds law " ++ decimal law
+
+-- why a body isn't valid, where its vectors, if it has any, have so many numbers
+abbrev pub check_refusal : ℕ → CheckRefusal → List ℕ
+check_refusal size (Checked.Replay r) = replay_refusal r
+check_refusal size (Checked.Table r) = table_refusal r
+check_refusal size (Checked.Linear r) = linear_refusal r
+check_refusal size (Checked.Matrix r) = matrix_refusal size r
+check_refusal size Checked.NoMemory = []
 
 -- why the ledger refuses a file
-abbrev pub file_refusal : LedgerRefusal → List ℕ
-file_refusal (Files.Check r) = check_refusal r
-file_refusal (Files.CiteMissing cite) = codes "cite missing " ++ decimal cite
-file_refusal (Files.CiteOther cite) = codes "cite other " ++ decimal cite
-file_refusal _ = []
+abbrev pub file_refusal : ℕ → LedgerRefusal → List ℕ
+file_refusal size (Files.Check r) = check_refusal size r
+file_refusal size (Files.CiteMissing cite) = codes "cite missing " ++ decimal cite
+file_refusal size (Files.CiteOther cite) = codes "cite other " ++ decimal cite
+file_refusal size _ = []

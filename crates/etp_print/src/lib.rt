@@ -3,11 +3,13 @@
 
 mod line;
 mod linear;
+mod matrix;
 mod refusal;
 mod table;
 
 pub use line::{begin_refusal, refuse, refuse_file, refuse_name, refuse_with};
 pub use linear::linear_text;
+pub use matrix::matrix_text;
 pub use refusal::{body_refusal_text, file_refusal_text, replay_text};
 pub use table::table_text;
 

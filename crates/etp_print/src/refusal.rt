@@ -1,8 +1,9 @@
 // The texts of refusals.
-ghost use Rattle.std.specs.Prelude.{◌≡◌, ◌≢◌, ◌++◌, IfOk, OnOk, codes, decimal};
+ghost use Rattle.std.specs.Prelude.{◌≡◌, ◌≢◌, ◌≤◌, ◌++◌, IfOk, OnOk, codes, decimal};
 ghost use Rattle.etp_print.specs.RefusalTexts.{body_refusal, found_text, step_place, replay_refusal, file_refusal};
 
 use crate::linear::append_linear_refusal;
+use crate::matrix::append_matrix_refusal;
 use crate::table::append_table_refusal;
 use etp_check::CheckRefusal;
 use etp_laws::Numbered;
@@ -82,14 +83,18 @@ fn append_replay_refusal(text: &mut Text, refusal: &ReplayRefusal) -> Result<(),
 }
 
 // Appends why the ledger refuses a file.
-fn append_file_refusal(text: &mut Text, refusal: &LedgerRefusal) -> Result<(), AllocError>
-    ensures text { OnOk result (text.new ≡ text.old ++ file_refusal refusal.now) }
+fn append_file_refusal(text: &mut Text, size: u8, refusal: &LedgerRefusal) -> Result<(), AllocError>
+    requires { size ≤ 4 }
+    ensures text { OnOk result (text.new ≡ text.old ++ file_refusal size refusal.now) }
     ensures cause { OnOk result (refusal.now ≢ LedgerRefusal.NoMemory) }
 {
     match refusal {
         LedgerRefusal::Check(CheckRefusal::Replay(refusal)) => append_replay_refusal(text, refusal),
         LedgerRefusal::Check(CheckRefusal::Table(refusal)) => append_table_refusal(text, refusal),
         LedgerRefusal::Check(CheckRefusal::Linear(refusal)) => append_linear_refusal(text, refusal),
+        LedgerRefusal::Check(CheckRefusal::Matrix(refusal)) => {
+            append_matrix_refusal(text, size, refusal)
+        }
         LedgerRefusal::CiteMissing { cite } => append_with(text, b"cite missing ", *cite),
         LedgerRefusal::CiteOther { cite } => append_with(text, b"cite other ", *cite),
         LedgerRefusal::NoMemory => Err(AllocError),
@@ -115,12 +120,18 @@ pub fn replay_text(alloc: Global, refusal: &ReplayRefusal) -> Result<Text, Alloc
     Ok(text)
 }
 
-/// Why the ledger refuses a file; want of memory is passed on.
-pub fn file_refusal_text(alloc: Global, refusal: &LedgerRefusal) -> Result<Text, AllocError>
-    ensures text { IfOk result (λ text. text ≡ file_refusal refusal.now) }
+/// Why the ledger refuses a file whose vectors have `size` numbers, where it has matrices; want of
+/// memory is passed on.
+pub fn file_refusal_text(
+    alloc: Global,
+    size: u8,
+    refusal: &LedgerRefusal,
+) -> Result<Text, AllocError>
+    requires { size ≤ 4 }
+    ensures text { IfOk result (λ text. text ≡ file_refusal size refusal.now) }
     ensures cause { OnOk result (refusal.now ≢ LedgerRefusal.NoMemory) }
 {
     let mut text = Text::empty(alloc);
-    append_file_refusal(&mut text, refusal)?;
+    append_file_refusal(&mut text, size, refusal)?;
     Ok(text)
 }

@@ -1,9 +1,10 @@
 use crate::{
-    begin_refusal, body_refusal_text, file_refusal_text, linear_text, refuse, refuse_file,
-    refuse_name, refuse_with, replay_text, table_text,
+    begin_refusal, body_refusal_text, file_refusal_text, linear_text, matrix_text, refuse,
+    refuse_file, refuse_name, refuse_with, replay_text, table_text,
 };
 use etp_ledger::LedgerRefusal;
 use etp_linear::{LinearFailure, LinearRefusal, Which};
+use etp_matrix::{MatrixFailure, MatrixRefusal, Part};
 use etp_reading::BodyRefusal;
 use etp_replay::ReplayRefusal;
 use etp_table::{Point, TableRefusal};
@@ -57,7 +58,7 @@ fn refusals_have_texts(rt: HostRuntime) {
     let text = table_text(alloc, &table).expect(&rt, "memory");
     assert!(rt; text.as_slice() == b"holds fails law 5 x=0 y=1 left 0 right 1".as_slice());
     let file = LedgerRefusal::CiteMissing { cite: 2 };
-    let text = file_refusal_text(alloc, &file).expect(&rt, "memory");
+    let text = file_refusal_text(alloc, 0, &file).expect(&rt, "memory");
     assert!(rt; text.as_slice() == b"cite missing 2".as_slice());
 }
 
@@ -85,6 +86,40 @@ fn refusals_of_linear_magmas_have_texts(rt: HostRuntime) {
     ];
     for (refusal, expected) in &cases {
         let text = linear_text(rt.alloc(), refusal).expect(&rt, "memory");
+        assert!(rt; text.as_slice() == expected.as_bytes());
+    }
+}
+
+#[test]
+fn refusals_of_matrix_linear_magmas_have_texts(rt: HostRuntime) {
+    let holds = |at| MatrixRefusal::HoldsFails {
+        law: 43,
+        failure: MatrixFailure {
+            at,
+            left: [0, 1, 0, 0],
+            right: [1, 1, 0, 0],
+        },
+    };
+    let cases: [(MatrixRefusal, &str); 5] = [
+        (MatrixRefusal::Modulus { value: 0 }, "modulus value 0"),
+        (
+            MatrixRefusal::Entry {
+                part: Part::A,
+                row: 0,
+                column: 1,
+                value: 2,
+            },
+            "matrix entry a row 0 column 1 value 2",
+        ),
+        (
+            holds(Some((0, 0))),
+            "holds fails law 43 x=e0 left 0,1 right 1,1",
+        ),
+        (holds(None), "holds fails law 43 zero left 0,1 right 1,1"),
+        (MatrixRefusal::FailsHolds { law: 3 }, "fails holds law 3"),
+    ];
+    for (refusal, expected) in &cases {
+        let text = matrix_text(rt.alloc(), 2, refusal).expect(&rt, "memory");
         assert!(rt; text.as_slice() == expected.as_bytes());
     }
 }

@@ -42,6 +42,7 @@ pub fn answer_profile(
         Some(Body::Table(table)) => answer_table(alloc, text, laws, table, word, line),
         Some(Body::Proof(_)) => refuse_name(text, line, b"not a table ", word),
         Some(Body::Linear(_)) => refuse_name(text, line, b"not a table ", word),
+        Some(Body::Matrix(_)) => refuse_name(text, line, b"not a table ", word),
     }
 }
 

@@ -37,6 +37,10 @@ fn append_kind(text: &mut Text, body: &Body) -> Result<(), AllocError>
             text.append(b"linear ")?;
             append_counts(text, &linear.claims)
         }
+        Body::Matrix(matrix) => {
+            text.append(b"matrix ")?;
+            append_counts(text, &matrix.claims)
+        }
     }
 }
 

@@ -18,3 +18,7 @@ returns-in-Some-Proof c = IfOk-then c.refuse_name-in-Some-Proof.result _ _ (λ r
 pub returns-in-Some-Linear : goal.returns-in-Some-Linear
 returns-in-Some-Linear c = IfOk-then c.refuse_name-in-Some-Linear.result _ _ (λ refusal h. gives-refused c.args.line c.refuse_name-in-Some-Linear.new.text _ refusal _
     (other_kind _ (c.in_ok-is_name.ensures.0 c.if-not-branch.false) (sym c.in-Some-Linear.ensures.body) (rw c.in-Some-Linear.field-0-is refl) refl) h) c.refuse_name-in-Some-Linear.ensures
+
+pub returns-in-Some-Matrix : goal.returns-in-Some-Matrix
+returns-in-Some-Matrix c = IfOk-then c.refuse_name-in-Some-Matrix.result _ _ (λ refusal h. gives-refused c.args.line c.refuse_name-in-Some-Matrix.new.text _ refusal _
+    (other_kind _ (c.in_ok-is_name.ensures.0 c.if-not-branch.false) (sym c.in-Some-Matrix.ensures.body) (rw c.in-Some-Matrix.field-0-is refl) refl) h) c.refuse_name-in-Some-Matrix.ensures
