@@ -1,7 +1,8 @@
 -- How much of a reply was written, and how a session ends.
-use Rattle.std.specs.Prelude.{ℕ, List, [], Bool, true, false}
+use Rattle.std.specs.Prelude.{ℕ, List, [], Bool, true, false, None}
 use Rattle.std.specs.declared.option.Option.{Option}
 use Rattle.std.specs.Io.KnownBytes.{Appends}
+use Rattle.etp_io.specs.Reader.{Reader}
 use Rattle.etp_io.specs.declared.lines.Next.{Next}
 use Rattle.etp_io.specs.declared.lines.Next.TheVariants.{Line, Long, End}
 use Rattle.etp_io.specs.Stream.{IsPrefix}
@@ -10,6 +11,11 @@ use Rattle.etp_session.specs.declared.serving.Ending.{Ending}
 use Rattle.etp_session.specs.declared.serving.Ending.TheVariants.{Done, ReadFault, WriteFault, NoMemory, TooMuch}
 use Rattle.etp_desk.specs.States.{State}
 use Rattle.etp_reply.specs.Given.{GivesClose}
+
+-- a reader that has read nothing
+abbrev pub unread : ℕ → Reader
+unread limit =
+    record { limit = limit; taken = 0; number = 0; held = []; line = []; ended = false; fault = None }
 
 -- the line that was read
 abbrev pub line_text : Next → List ℕ → LineText

@@ -2,13 +2,13 @@
 ghost use Rattle.std.specs.Prelude.{◌≡◌, ◌↔◌, IsTrue, ◌++◌, [], ◌+◌, ◌-◌, ◌≤◌, ℕ, List, length, IfOk, IfErr, IfSome, OnOk, IsErrOf, ◌⊎◌, ◌||◌, true, false};
 ghost use Rattle.etp_io.specs.Causes.{Rose};
 ghost use Rattle.etp_reading.specs.Reading.{given_text};
-ghost use Rattle.etp_desk.specs.States.{State};
+ghost use Rattle.etp_desk.specs.States.{State, unopened};
 ghost use Rattle.etp_reply.specs.Shelves.{known};
 ghost use Rattle.etp_reply.specs.Replies.{Reaches};
 ghost use Rattle.etp_reply.specs.Given.{GivesReply};
 ghost use Rattle.etp_reply.specs.Desks.{IsDesk, IsSound, HasRightLaws};
 ghost use Rattle.etp_session.specs.Loads.{LoadsLong};
-ghost use Rattle.etp_session.specs.Endings.{line_text, WritesNothing, WritesClose, WritesSomeOfClose, IsDone, IsEnd, status_of};
+ghost use Rattle.etp_session.specs.Endings.{line_text, WritesNothing, WritesClose, WritesSomeOfClose, IsDone, IsEnd, status_of, unread};
 ghost use Rattle.etp_session.specs.Streams.{streams};
 ghost use Rattle.etp_session.specs.Protocols.{ledger_protocol};
 ghost use Rattle.etp_session.specs.SessionEnds.{SessionEnds};
@@ -158,6 +158,30 @@ fn serve<S: Source, K: Sink, H: Shelf>(
     };
     let mut text = Text::empty(alloc);
     let mut desk = Desk::start();
+    serve_lines(
+        alloc, limit, &mut lines, &mut text, &mut desk, source, sink, shelf,
+    )
+}
+
+// Answers the lines of the source, from the first one on.
+fn serve_lines<S: Source, K: Sink, H: Shelf>(
+    alloc: Global,
+    limit: u64,
+    lines: &mut Lines,
+    text: &mut Text,
+    desk: &mut Desk,
+    source: &mut S,
+    sink: &mut K,
+    shelf: &mut H,
+) -> Ending
+    requires limit { limit ≤ 134217728 }
+    requires unread { lines.old ≡ unread limit }
+    requires first { IsDesk desk.old unopened }
+    requires laws { HasRightLaws desk.old }
+    ensures { SessionEnds (ledger_protocol (known limit (H.keeps shelf.old)))
+        (streams S.Source K.Sink H.Shelf source.old sink.old shelf.old)
+        (streams S.Source K.Sink H.Shelf source.new sink.new shelf.new) (status_of result) }
+{
     let mut refused = false;
     'served: loop {
         let next = match lines.next(source) {
@@ -166,19 +190,11 @@ fn serve<S: Source, K: Sink, H: Shelf>(
             Err(InFault::TooMuch { .. }) => return Ending::TooMuch,
         };
         if is_end(next) {
-            return close(alloc, &mut desk, &mut text, refused, sink);
+            return close(alloc, desk, text, refused, sink);
         }
-        let line = line_read(next, &lines);
+        let line = line_read(next, lines);
         text.clear();
-        match answer_line(
-            alloc,
-            limit,
-            &mut text,
-            &mut desk,
-            line,
-            lines.number(),
-            shelf,
-        ) {
+        match answer_line(alloc, limit, text, desk, line, lines.number(), shelf) {
             Ok(also) => refused = either(refused, also),
             Err(ending) => return ending,
         }

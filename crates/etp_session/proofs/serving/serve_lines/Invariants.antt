@@ -3,7 +3,7 @@ use Rattle.etp_reply.specs.Shelves.{known}
 use Rattle.etp_reply.specs.Desks.{HasRightLaws, IsDesk}
 use Rattle.etp_session.specs.Protocols.{ledger_protocol}
 use Rattle.etp_session.proofs.Running.{Running, Untouched}
-use Rattle.etp_session.proofs.serving.serve.Given as goal
+use Rattle.etp_session.proofs.serving.serve_lines.Given as goal
 
 abbrev pub invariant-served : goal.invariant-served
 invariant-served g l = Running (ledger_protocol (known l.limit (g.H.Shelf.keeps l.fn.shelf))) (g.S.Source.left l.fn.source) (g.S.Source.left l.source) (g.S.Source.last l.source) (g.K.Sink.took l.fn.sink) (g.K.Sink.took l.sink)
