@@ -1,0 +1,5 @@
+pub mod Numbering
+pub mod Pairs
+pub mod Judging
+pub mod Refusals
+pub mod Among
