@@ -1,0 +1,9 @@
+mod Walks
+mod Chains
+mod Levels
+mod Graphs
+mod Nearer
+mod Distances
+mod Pairs
+mod Covering
+mod Named

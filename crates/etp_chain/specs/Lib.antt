@@ -1,0 +1,4 @@
+pub mod Evidence
+pub mod Searches
+pub mod Edges
+pub mod Theorems
