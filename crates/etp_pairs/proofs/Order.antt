@@ -11,12 +11,17 @@ use Rattle.etp_theory.specs.FailingOverlaps.{PositionBefore, Place, place, Place
 use Rattle.etp_theory.proofs.Places.{position_inside, irreflexive, place_eq}
 use Rattle.etp_theory.proofs.Failing.{alike, passes_alike, one_pair_tells}
 use Rattle.etp_theory.proofs.Passing.{convergent_of}
+use Rattle.etp_term.specs.Terms.{tree_of}
 use Rattle.etp_term.specs.Positions.{side_of, position_of}
+use Rattle.etp_term.specs.declared.term.Term.{Term}
 use Rattle.etp_term.specs.declared.position.Side as Sides
 use Rattle.etp_term.specs.declared.position.Side.TheVariants.{L, R}
 use Rattle.etp_pairs.specs.Pairs.{IsAt, IsPairOf, HasNoPair}
+use Rattle.etp_pairs.specs.Judging.{IsJudged}
 use Rattle.etp_pairs.specs.Refusals.{IsFirstAt, IsRefused}
 use Rattle.etp_pairs.specs.Among.{AllPass, IsFirstAmong, IsRefusedAmong, OfOuter, InPart, AtPosition, AtPlace, IsPartOf}
+use Rattle.etp_pairs.specs.declared.judging.Judged.{Judged}
+use Rattle.etp_pairs.specs.declared.judging.Judged.TheVariants.{OneForm}
 use Rattle.etp_pairs.specs.declared.refusal.PairsRefusal.{PairsRefusal}
 use Rattle.etp_pairs.specs.declared.refusal.PairsRefusal.TheVariants.{Unjoinable, TermLimit, StepLimit, NoMemory}
 
@@ -53,6 +58,12 @@ no_operation_in (to_left ∷ p) q (var w) v x y h k = absurd (cc)
 no_operation_in (to_left ∷ p) q (op a b) v x y h k = no_operation_in p q a v x y h k
 no_operation_in (to_right ∷ p) q (var w) v x y h k = absurd (cc)
 no_operation_in (to_right ∷ p) q (op a b) v x y h k = no_operation_in p q b v x y h k
+
+-- what is found where two terms have one form
+pub one_form : (rules : List Equation) (s t : Tree) (j : Judged) (u : Term) → j ≡ OneForm u → IsJudged rules s t j → HaveOneForm rules s t
+one_form rules s t j u is h =
+    let forms : IsJudged rules s t (OneForm u) = subst (IsJudged rules s t) is h in
+    record { form = tree_of u; of_left = forms.0; of_right = forms.1 }
 
 lt_or_eq : (i n : ℕ) → i < n + 1 → (i < n) ⊎ (i ≡ n)
 lt_or_eq i n h = grind arith

@@ -3,3 +3,4 @@ pub mod Pairs
 pub mod Judging
 pub mod Refusals
 pub mod Among
+pub mod Theorems

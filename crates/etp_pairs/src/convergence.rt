@@ -10,7 +10,7 @@ ghost use Rattle.etp_pairs.specs.Refusals.{IsRefused};
 ghost use Rattle.etp_pairs.specs.Among.{AllPass, IsRefusedAmong, IsPartOf};
 ghost use Rattle.etp_pairs.specs.Among.{OfOuter, InPart, AtPosition, AtPlace};
 
-use crate::judging::{Judged, judge};
+use crate::judging::{Judged, judge_terms};
 use crate::pairing::{copied, overlap};
 use crate::refusal::PairsRefusal;
 use etp_rules::RuleSystem;
@@ -119,10 +119,10 @@ fn check_place(
     let Some(pair) = overlap(alloc, system, outer, position, inner)? else {
         return Ok(());
     };
-    let judged = judge(alloc, system, &pair.left, &pair.right)?;
+    let judged = judge_terms(alloc, system, &pair.left, &pair.right)?;
     let position = pair.position;
     match judged {
-        Judged::OneForm => Ok(()),
+        Judged::OneForm(_) => Ok(()),
         Judged::TwoForms(left_form, right_form) => Err(PairsRefusal::Unjoinable {
             outer,
             position,

@@ -10,17 +10,19 @@ use std::alloc::Global;
 
 /// What is found of two terms.
 #[derive(Drop)]
-pub(crate) enum Judged {
-    /// They have one normal form.
-    OneForm,
-    /// They have two.
+pub enum Judged {
+    /// Both have this normal form.
+    OneForm(Term),
+    /// They have these two.
     TwoForms(Term, Term),
+    /// One of the walks comes to a term of more than 512 leaves.
     TermLimit,
+    /// One of the walks has more than 100000 steps.
     StepLimit,
 }
 
 /// Whether both terms have one normal form; the walk of the left one is looked at first.
-pub(crate) fn judge(
+pub fn judge_terms(
     alloc: Global,
     system: &RuleSystem,
     left: &Term,
@@ -40,7 +42,7 @@ pub(crate) fn judge(
         Normal::StepLimit => return Ok(Judged::StepLimit),
     };
     if left_form.same_term(&right_form) {
-        return Ok(Judged::OneForm);
+        return Ok(Judged::OneForm(left_form));
     }
     Ok(Judged::TwoForms(left_form, right_form))
 }

@@ -6,10 +6,13 @@ mod judging;
 mod naming;
 mod pairing;
 mod refusal;
+mod theorems;
 
 pub use convergence::convergent;
+pub use judging::{Judged, judge_terms};
 pub use pairing::{CriticalPair, overlap};
 pub use refusal::PairsRefusal;
+pub use theorems::pairs_theorems;
 
 #[cfg(test)]
 mod tests;

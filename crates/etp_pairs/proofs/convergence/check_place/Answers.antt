@@ -9,7 +9,7 @@ use Rattle.etp_rules.proofs.Usable.{all_decrease}
 use Rattle.etp_pairs.specs.Pairs.{IsPair, IsPairAt}
 use Rattle.etp_pairs.specs.Judging.{IsJudged}
 use Rattle.etp_pairs.specs.Among.{IsFirstAmong, AtPlace}
-use Rattle.etp_pairs.proofs.Order.{one_form_passes, fails_there}
+use Rattle.etp_pairs.proofs.Order.{one_form, one_form_passes, fails_there}
 use Rattle.etp_pairs.proofs.Forms.{form_small}
 use Rattle.etp_pairs.proofs.convergence.check_place.Goals as goal
 
@@ -18,7 +18,7 @@ returns-in-OneForm-clause-ok c =
     let rules = rules_of c.args.system.now.rules in
     let p = position_of c.args.position.now in
     let pair : IsPairAt rules c.args.outer p c.args.inner c.in-Some.pair = subst (IsPair rules c.args.outer p c.args.inner) c.in-Some.is c.in_ok-pair.ensures in
-    let judged = subst (IsJudged rules (tree_of c.in-Some.pair.left) (tree_of c.in-Some.pair.right)) c.in-OneForm.is c.in_ok-judged.ensures in
+    let judged = one_form rules (tree_of c.in-Some.pair.left) (tree_of c.in-Some.pair.right) _ _ c.in-OneForm.is c.in_ok-judged.ensures in
     one_form_passes rules (weight_of c.args.system.now.weights) (all_decrease c.args.system.now.weights c.args.system.now.rules c.args.system.now.valid) c.args.outer p c.args.inner pair.overlapped pair.at _ _ pair.results judged
 
 pub returns-in-TwoForms-clause-err : goal.returns-in-TwoForms-clause-err
