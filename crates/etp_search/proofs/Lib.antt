@@ -4,3 +4,10 @@ pub mod Joining
 pub mod SlotFilling
 pub mod Plugging
 pub mod Stepping
+pub mod FirstPlaces
+pub mod Standing
+pub mod LeastTerms
+pub mod LevelByLevel
+pub mod ProofsOver
+pub mod SearchedSpace
+pub mod Answering

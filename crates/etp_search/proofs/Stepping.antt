@@ -10,6 +10,7 @@ use Rattle.etp_theory.proofs.Trees.{composed, identity}
 use Rattle.etp_theory.proofs.Matching.{apply_agree}
 use Rattle.etp_search.specs.Spaces.{Space, IsSearchTerm, IsStepOf, AreNeighbours}
 use Rattle.etp_search.specs.Filling.{at_one}
+use Rattle.etp_search.specs.Leading.{IsRootStep}
 use Rattle.etp_search.specs.Plugging.{IsBelow, plugged, IsContext, IsReplacedBy, IsSteppedTo}
 use Rattle.etp_search.proofs.Opening.{at_one_same, at_one_other}
 use Rattle.etp_search.specs.Sets.{IsJoined}
@@ -25,11 +26,6 @@ right_of (var v) = var v
 right_of (op l r) = r
 
 -- steps by an equation at the root and in the parts
-
-pub record IsRootStep (e : Equation) (s t : Tree) : Type 0 where
-  pub by : ℕ → Tree
-  pub before : apply by e.left ≡ s
-  pub after : apply by e.right ≡ t
 
 pub root_step : (e : Equation) (s t : Tree) → IsRootStep e s t → IsStepBy e [] s t
 root_step e s t h = record { by = h.by; before = ap Some (sym h.before); after = ap Some (sym h.after); outside = λ u. refl }
@@ -251,3 +247,11 @@ exactly P most new few joined t = (λ h. joined.only t (subst (λ (ts : List Tre
     every : (most < length new) ⊎ ((t : Tree) → P t → Contains new t) → P t → Contains new t
     every (inl h) p = absurd (omega (arith, h, few))
     every (inr f) p = f t p
+
+pub op_left : {a b c d : Tree} → op a b ≡ op c d → a ≡ c
+unfolding left_of
+op_left e = ap left_of e
+
+pub op_right : {a b c d : Tree} → op a b ≡ op c d → b ≡ d
+unfolding right_of
+op_right e = ap right_of e

@@ -6,3 +6,7 @@ pub mod Sets
 pub mod Programs
 pub mod Filling
 pub mod Plugging
+pub mod Leading
+pub mod Levels
+pub mod Outcomes
+pub mod Searched

@@ -1,5 +1,7 @@
-use crate::{Space, Terms, neighbours};
-use etp_term::{Law, NoMemory, Term};
+use crate::{Searched, Space, Terms, neighbours, shortest};
+use etp_laws::Laws;
+use etp_proof::{Lemma, Proof, Step};
+use etp_term::{Law, NoMemory, Side, Term};
 use sqlite_items::Boxed;
 use std::alloc::Global;
 
@@ -88,4 +90,155 @@ fn a_term_is_there_once(rt: HostRuntime) {
     terms.add(alloc, Term::Var(5)).expect(&rt, "memory");
     assert_eq!(rt; terms.len(), 2);
     assert!(rt; has(&terms, &Term::Var(4)));
+}
+
+/// The question for a shortest proof between listed laws, with its bounds.
+#[derive(Clone, Copy)]
+struct Question {
+    hypothesis: u32,
+    goal: u32,
+    leaves: u8,
+    steps: u8,
+}
+
+/// What is answered where the conditions hold.
+fn searched(alloc: Global, laws: &Laws, asked: Question) -> Option<Result<Searched, NoMemory>> {
+    if laws.order() != 4 {
+        return None;
+    }
+    if laws.law(asked.hypothesis).is_none() {
+        return None;
+    }
+    if laws.law(asked.goal).is_none() {
+        return None;
+    }
+    if asked.leaves < 1 || asked.leaves > 6 {
+        return None;
+    }
+    if asked.steps > 12 {
+        return None;
+    }
+    let answer = shortest(
+        alloc,
+        laws,
+        asked.hypothesis,
+        asked.goal,
+        asked.leaves,
+        asked.steps,
+    );
+    Some(answer)
+}
+
+/// The proof that is found.
+fn proof_found(alloc: Global, laws: &Laws, asked: Question) -> Option<Proof> {
+    match searched(alloc, laws, asked) {
+        Some(Ok(Searched::Found(proof))) => Some(proof),
+        _ => None,
+    }
+}
+
+/// Whether the lemma has the step at a place, which is at the root or in the right part.
+fn has_step(lemma: &Lemma, at: u32, to: &Term, reversed: bool, in_right: bool) -> bool {
+    match lemma.steps.get(at) {
+        Some(step) => {
+            step.to.same_term(to) && step.reversed == reversed && is_in_right(step) == in_right
+        }
+        None => false,
+    }
+}
+
+fn is_in_right(step: &Step) -> bool {
+    matches!(step.position.get(0), Some(Side::R)) && step.position.len() == 1
+}
+
+#[test]
+fn law_4_gives_law_3_by_one_step(rt: HostRuntime) {
+    let alloc = rt.alloc();
+    let laws = Laws::build(alloc).expect(&rt, "memory");
+    let asked = Question {
+        hypothesis: 4,
+        goal: 3,
+        leaves: 2,
+        steps: 3,
+    };
+    let proof = proof_found(alloc, &laws, asked).expect(&rt, "a proof");
+    let lemma = proof.lemmas.get(0).expect(&rt, "a lemma");
+    assert_eq!(rt; lemma.steps.len(), 1);
+    let square = product(alloc, 0, 0).expect(&rt, "memory");
+    assert!(rt; has_step(lemma, 0, &square, false, false));
+}
+
+#[test]
+fn law_4_gives_law_4512_by_two_steps(rt: HostRuntime) {
+    let alloc = rt.alloc();
+    let laws = Laws::build(alloc).expect(&rt, "memory");
+    let asked = Question {
+        hypothesis: 4,
+        goal: 4512,
+        leaves: 3,
+        steps: 2,
+    };
+    let proof = proof_found(alloc, &laws, asked).expect(&rt, "a proof");
+    let lemma = proof.lemmas.get(0).expect(&rt, "a lemma");
+    assert_eq!(rt; lemma.steps.len(), 2);
+    let shorter = product(alloc, 0, 1).expect(&rt, "memory");
+    assert!(rt; has_step(lemma, 0, &shorter, true, true));
+    let left = product(alloc, 0, 1).expect(&rt, "memory");
+    let end = op(alloc, left, Term::Var(2)).expect(&rt, "memory");
+    assert!(rt; has_step(lemma, 1, &end, false, false));
+}
+
+#[test]
+fn one_step_is_too_few(rt: HostRuntime) {
+    let alloc = rt.alloc();
+    let laws = Laws::build(alloc).expect(&rt, "memory");
+    let asked = Question {
+        hypothesis: 4,
+        goal: 4512,
+        leaves: 3,
+        steps: 1,
+    };
+    assert!(rt; matches!(searched(alloc, &laws, asked), Some(Ok(Searched::Nothing))));
+}
+
+#[test]
+fn law_4_does_not_give_law_43(rt: HostRuntime) {
+    let alloc = rt.alloc();
+    let laws = Laws::build(alloc).expect(&rt, "memory");
+    let asked = Question {
+        hypothesis: 4,
+        goal: 43,
+        leaves: 6,
+        steps: 12,
+    };
+    assert!(rt; matches!(searched(alloc, &laws, asked), Some(Ok(Searched::Nothing))));
+}
+
+#[test]
+fn law_1_gives_itself_without_steps(rt: HostRuntime) {
+    let alloc = rt.alloc();
+    let laws = Laws::build(alloc).expect(&rt, "memory");
+    let asked = Question {
+        hypothesis: 1,
+        goal: 1,
+        leaves: 1,
+        steps: 0,
+    };
+    let proof = proof_found(alloc, &laws, asked).expect(&rt, "a proof");
+    let lemma = proof.lemmas.get(0).expect(&rt, "a lemma");
+    assert_eq!(rt; lemma.steps.len(), 0);
+}
+
+#[test]
+fn six_variables_are_too_many_at_three_steps(rt: HostRuntime) {
+    let alloc = rt.alloc();
+    let laws = Laws::build(alloc).expect(&rt, "memory");
+    let asked = Question {
+        hypothesis: 4,
+        goal: 4694,
+        leaves: 6,
+        steps: 12,
+    };
+    let answer = searched(alloc, &laws, asked);
+    assert!(rt; matches!(answer, Some(Ok(Searched::Budget { level: 3 }))));
 }
