@@ -11,7 +11,6 @@ use Rattle.etp_match.proofs.Extending.{extends_on, still_matched}
 use Rattle.etp_search.specs.Spaces.{IsStepOf}
 use Rattle.etp_search.specs.Shortest.{IsFirstPlace}
 use Rattle.etp_search.specs.Leading.{IsRootStep, IsPlacedBelow}
-use Rattle.etp_search.proofs.Kept.{nil}
 use Rattle.etp_search.proofs.Stepping.{root_step, step_root, step_left, step_right, left_step, right_step, step_cases, Stepped, forwards, backwards, in_left, in_right, op_left, op_right}
 
 -- an answer that is never wrongly false

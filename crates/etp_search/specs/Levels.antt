@@ -49,7 +49,8 @@ pub data IsLesser (law : Equation) (s : Tree) (least : Option Tree) (t : Tree)
     (result : Option Tree) : Type 0 where
   skipped : (IsStepOf law s t → ⊥) → result ≡ least → IsLesser law s least t result
   taken : (r : Tree) → IsStepOf law s t → result ≡ Some r → (least ≡ Some r) ⊎ (r ≡ t)
-      → term_cmp r t ≢ Greater → ((u : Tree) → least ≡ Some u → term_cmp r u ≢ Greater) → IsLesser law s least t result
+      → term_cmp r t ≢ Greater → ((u : Tree) → least ≡ Some u → term_cmp r u ≢ Greater)
+      → IsLesser law s least t result
 
 -- by the hypothesis, to a term at its first place
 pub record IsPlacedStep (law : Equation) (s t : Tree) (x : ProofStep) : Type 0 where

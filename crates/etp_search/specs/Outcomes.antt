@@ -47,7 +47,8 @@ pub record IsLedTo (space : Space) (goal : Equation) (steps k : ℕ) (l : Lemma)
   pub count : length l.steps + k ≡ far
   pub arrived : IsWithin space goal.right k (last_term l.start l.steps)
   pub not_before : (j : ℕ) → j < k → IsWithin space goal.right j (last_term l.start l.steps) → ⊥
-  pub least : (rest : List ProofStep) → AreLeastSteps space goal.right k (last_term l.start l.steps) rest
+  pub least : (rest : List ProofStep)
+      → AreLeastSteps space goal.right k (last_term l.start l.steps) rest
       → AreLeastSteps space goal.right far goal.left (l.steps ++ rest)
 
 -- no steps
@@ -59,7 +60,8 @@ abbrev pub pushed : Lemma → ProofStep → Lemma
 pushed l x = record { start = l.start; steps = l.steps ++ x ∷ [] }
 
 -- the lemma has one step more, which is the nearest
-pub record IsSteppedOn (space : Space) (terms : List Tree) (start stop : ℕ) (l m : Lemma) : Type 0 where
+pub record IsSteppedOn (space : Space) (terms : List Tree) (start stop : ℕ) (l m : Lemma)
+    : Type 0 where
   pub step : ProofStep
   pub nearest : IsNearestStep space terms start stop (last_term l.start l.steps) step
   pub longer : m ≡ pushed l step

@@ -19,7 +19,8 @@ space_for laws hypothesis goal leaves = record {
 }
 
 -- the proof's one lemma is the shortest
-pub record IsShortestProof (space : Space) (goal : Equation) (steps : ℕ) (proof : Proof) : Type 0 where
+pub record IsShortestProof (space : Space) (goal : Equation) (steps : ℕ) (proof : Proof)
+    : Type 0 where
   pub lemma : Lemma
   pub alone : map lemma_of proof.lemmas ≡ lemma ∷ []
   pub shortest : IsShortest space goal steps lemma
