@@ -1,0 +1,5 @@
+pub mod Draws
+pub mod Files
+pub mod Scripts
+pub mod Theorems
+pub mod Examples
