@@ -1,5 +1,5 @@
 mod Walks
-mod Chains
+pub mod Chains
 mod Levels
 mod Graphs
 mod Nearer

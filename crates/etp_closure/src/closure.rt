@@ -70,6 +70,15 @@ impl Closure {
         })
     }
 
+    /// The number of each law's dual, from law 1 on.
+    pub fn duals(&self) -> &[u32]
+        ensures value { result.now ≡ self.now.duals }
+        ensures own_inverse { IsOwnInverse self.now.duals }
+        ensures kept { (law : ℕ) → IsKept self.now.slots law → IsLaw (length self.now.duals) law }
+    {
+        &self.duals
+    }
+
     /// How many laws there are.
     pub fn size(&self) -> u32
         ensures { result ≡ length self.now.duals }

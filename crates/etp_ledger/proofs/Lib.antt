@@ -7,3 +7,4 @@ pub mod Ends
 pub mod Meaning
 pub mod Storing
 pub mod Verdicts
+pub mod FactLaws

@@ -6,4 +6,5 @@ pub mod Refusals
 pub mod Asking
 pub mod Ledgers
 pub mod Kept
+pub mod Evidence
 pub mod Theorems

@@ -65,3 +65,7 @@ abbrev pub IsQuestionRefused : ℕ → ℕ → ℕ → LedgerRefusal → Type 0
 IsQuestionRefused count e f (UnknownLaw number) =
     ((number ≡ e) × ¬ IsLaw count e) ⊎ ((number ≡ f) × IsLaw count e × ¬ IsLaw count f)
 IsQuestionRefused count e f _ = ⊥
+
+-- want of memory, or such a number
+abbrev pub IsWhyRefused : ℕ → ℕ → ℕ → LedgerRefusal → Type 0
+IsWhyRefused count e f r = (r ≡ NoMemory) ⊎ IsQuestionRefused count e f r

@@ -8,10 +8,13 @@ mod facts;
 mod kept;
 mod ledger;
 mod refusal;
+mod why;
 
+pub use etp_chain::{Cover, Edge, Path};
 pub use etp_proof::Label as Name;
 pub use ledger::Ledger;
 pub use refusal::LedgerRefusal;
+pub use why::Why;
 
 /// A file is accepted, or it is refused in one way, and so is a withdrawal; only want of memory may
 /// come besides.

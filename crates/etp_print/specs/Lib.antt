@@ -1,3 +1,4 @@
 pub mod Texts
 pub mod RefusalTexts
+pub mod EvidenceTexts
 pub mod Given

@@ -1,12 +1,17 @@
-//! The texts of refusals, and the lines that say them.
+//! The texts of refusals, the lines that say them, and the lines of evidence.
 #![tactic(auto)]
 
+mod evidence;
 mod line;
 mod linear;
 mod matrix;
 mod refusal;
 mod table;
 
+pub use evidence::{
+    append_cover, append_edge, append_linear_failure, append_matrix_failure, append_table_failure,
+    cover_text, edge_text,
+};
 pub use line::{begin_refusal, refuse, refuse_file, refuse_name, refuse_with};
 pub use linear::linear_text;
 pub use matrix::matrix_text;

@@ -49,7 +49,7 @@ fn append_unit(text: &mut Text, variable: Option<u8>) -> Result<(), AllocError>
 }
 
 // Appends the assignment at which a law fails, and the values of both sides.
-fn append_failure(text: &mut Text, failure: &LinearFailure) -> Result<(), AllocError>
+pub(crate) fn append_failure(text: &mut Text, failure: &LinearFailure) -> Result<(), AllocError>
     ensures { OnOk result (text.new ≡ text.old ++ failure_text failure.now) }
 {
     append_unit(text, failure.variable)?;

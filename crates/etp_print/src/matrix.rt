@@ -78,7 +78,7 @@ fn append_with_commas(text: &mut Text, numbers: &[u32]) -> Result<(), AllocError
 }
 
 // Appends the assignment at which all are zero but this variable, which is this unit vector.
-fn append_unit_vector(text: &mut Text, at: Option<(u8, u8)>) -> Result<(), AllocError>
+pub(crate) fn append_unit_vector(text: &mut Text, at: Option<(u8, u8)>) -> Result<(), AllocError>
     ensures { OnOk result (text.new ≡ text.old ++ unit_vector_text at) }
 {
     let Some((variable, column)) = at else {
@@ -98,7 +98,11 @@ fn append_vector(text: &mut Text, words: &[u8], vector: &[u32]) -> Result<(), Al
 }
 
 // Appends the vectors of both sides, which have so many numbers.
-fn append_vectors(text: &mut Text, size: u8, failure: &MatrixFailure) -> Result<(), AllocError>
+pub(crate) fn append_vectors(
+    text: &mut Text,
+    size: u8,
+    failure: &MatrixFailure,
+) -> Result<(), AllocError>
     requires { size ≤ 4 }
     ensures { OnOk result (text.new ≡ text.old ++ vectors_text size failure.now) }
 {

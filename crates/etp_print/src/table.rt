@@ -20,7 +20,7 @@ pub(crate) fn append_value(text: &mut Text, variable: u8, value: u8) -> Result<(
 }
 
 // Appends the values of the point's variables, each behind a space.
-fn append_point(text: &mut Text, point: &Point) -> Result<(), AllocError>
+pub(crate) fn append_point(text: &mut Text, point: &Point) -> Result<(), AllocError>
     ensures { OnOk result (text.new ≡ text.old ++ values_text 0 (values_of point.now)) }
 {
     for (variable, value) in point.values.iter().enumerate() {
@@ -40,7 +40,7 @@ fn append_counts(text: &mut Text, size: u8, variables: u8) -> Result<(), AllocEr
 }
 
 // Appends the values of both sides.
-fn append_sides(text: &mut Text, left: u8, right: u8) -> Result<(), AllocError>
+pub(crate) fn append_sides(text: &mut Text, left: u8, right: u8) -> Result<(), AllocError>
     ensures { OnOk result (text.new ≡ text.old ++ sides_text left right) }
 {
     append_with(text, b" left ", u32::from(left))?;

@@ -3,7 +3,7 @@
 
 mod profile;
 
-pub use profile::answer_profile;
+pub use profile::{answer_profile, table_of};
 
 #[cfg(test)]
 mod tests;

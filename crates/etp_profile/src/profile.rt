@@ -95,8 +95,8 @@ fn answer_table(
     }
 }
 
-// The table of a valid body.
-fn table_of(alloc: Global, body: &TableBody) -> Result<OpTable, AllocError>
+/// The table of a body whose entries are below its size.
+pub fn table_of(alloc: Global, body: &TableBody) -> Result<OpTable, AllocError>
     requires { IsTable (record { size = body.now.size; entries = body.now.entries }) }
     ensures { IfOk result (λ table. table ≡ record { size = body.now.size; entries = body.now.entries }) }
 {

@@ -1,0 +1,4 @@
+pub mod EdgeLines
+pub mod Covering
+pub mod Shown
+pub mod OneWhy
