@@ -6,7 +6,7 @@ use Rattle.std.proofs.lemmas.Option.{slice_get_within, slice_get-get_or}
 use Rattle.etp_ledger.specs.Files.{File}
 use Rattle.etp_show.specs.FileLists.{file_lines, kind_text}
 
-take-next : (files : List File) (at : ℕ) (file : File) → slice_get files at ≡ Some file → take (at + 1) files ≡ take at files ++ file ∷ []
+pub take-next : (files : List File) (at : ℕ) (file : File) → slice_get files at ≡ Some file → take (at + 1) files ≡ take at files ++ file ∷ []
 take-next files at file h =
     let inside : at < length files = slice_get_within files at file h in
     let e : Some (get_or files at file) ≡ Some file = sym (slice_get-get_or files at file inside) ∙ h in

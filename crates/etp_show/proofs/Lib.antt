@@ -1,3 +1,4 @@
 pub mod LawLemmas
 pub mod FileLemmas
+pub mod PrintedLemmas
 pub mod OneLaw

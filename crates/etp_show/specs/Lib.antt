@@ -1,2 +1,3 @@
 pub mod LawReplies
 pub mod FileLists
+pub mod Printed
