@@ -1,1 +1,5 @@
 pub mod Sums
+pub mod Lists
+pub mod Classing
+pub mod Partition
+pub mod Records

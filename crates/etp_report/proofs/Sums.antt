@@ -10,7 +10,7 @@ use Rattle.etp_closure.specs.declared.facts.Answer.TheVariants.{Implied, Refuted
 use Rattle.etp_report.specs.Pairs.{is_same, how_many, sum_below, laws_answered, pairs_answered}
 
 -- what the answer to a pair is, by both truth values
-implied_if : (r c : Bool) → is_same (if r then Implied else (if c then Refuted else Unsettled)) Implied ≡ r
+pub implied_if : (r c : Bool) → is_same (if r then Implied else (if c then Refuted else Unsettled)) Implied ≡ r
 implied_if true c = refl
 implied_if false true = refl
 implied_if false false = refl

@@ -1,2 +1,3 @@
 pub mod PairAnswers
+pub mod ReportAnswers
 pub mod OneAnswer

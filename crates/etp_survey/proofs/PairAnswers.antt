@@ -14,12 +14,13 @@ use Rattle.etp_ledger.specs.Asking.{Means}
 use Rattle.etp_ledger.specs.Refusals.{IsQuestionRefused}
 use Rattle.etp_ledger.specs.declared.refusal.LedgerRefusal.TheVariants.{UnknownLaw}
 use Rattle.etp_report.specs.Pairs.{pairs_answered}
+use Rattle.etp_report.specs.Blocks.{answer_text}
 use Rattle.etp_report.specs.declared.counts.Counts.{Counts}
 use Rattle.etp_laws.specs.LawLists.{LawList}
 use Rattle.etp_ledger.specs.Ledgers.{Entries, IsOver}
 use Rattle.etp_print.specs.Texts.{answered, refused, reply_text}
 use Rattle.etp_print.specs.Given.{Gives}
-use Rattle.etp_survey.specs.PairReplies.{AskReply, unknown, known, CountsReply, pairs_with, counts_line, pair_line, answer_text}
+use Rattle.etp_survey.specs.PairReplies.{AskReply, unknown, known, CountsReply, pairs_with, counts_line, pair_line}
 
 pub answers-pair : (laws : LawList) (ledger : Entries) (e f n : ℕ) (a : Answer) (old text : List ℕ) → IsOver laws ledger → IsLaw (length ledger.closure.duals) e × IsLaw (length ledger.closure.duals) f
     → Says ledger.closure.duals (facts_of ledger.files) e f a → ((list : List Equation) → IsTheList ledger.order list → Means list e f a)

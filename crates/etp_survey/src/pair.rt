@@ -2,27 +2,19 @@
 ghost use Rattle.std.specs.Prelude.{◌≡◌, ◌++◌, ◌∷◌, [], IfOk, OnOk, length};
 ghost use Rattle.etp_laws.specs.LawLists.{LawList};
 ghost use Rattle.etp_ledger.specs.Ledgers.{IsOver};
+ghost use Rattle.etp_report.specs.Blocks.{answer_text};
 ghost use Rattle.etp_print.specs.Given.{Gives};
-ghost use Rattle.etp_survey.specs.PairReplies.{AskReply, CountsReply, pair_line, answer_text, counts_line};
+ghost use Rattle.etp_survey.specs.PairReplies.{AskReply, CountsReply, pair_line, counts_line};
 
 use etp_closure::Answer;
 use etp_ledger::{Ledger, LedgerRefusal};
 use etp_print::refuse_with;
-use etp_report::{Counts, count_answers};
+use etp_report::{Counts, answer_word, count_answers};
 use etp_text::Text;
 use std::alloc::AllocError;
 
-fn answer_word(answer: Answer) -> &'static str
-    ensures { result.now ≡ answer_text answer }
-{
-    match answer {
-        Answer::Implied => "implied",
-        Answer::Refuted => "refuted",
-        Answer::Unsettled => "open",
-    }
-}
-
-fn append_pair(text: &mut Text, e: u32, f: u32, answer: Answer) -> Result<(), AllocError>
+/// Appends the line of a pair of laws and its answer.
+pub fn append_pair(text: &mut Text, e: u32, f: u32, answer: Answer) -> Result<(), AllocError>
     ensures { OnOk result (text.new ≡ text.old ++ pair_line e f (answer_text answer)) }
 {
     text.append_number(u64::from(e))?;
@@ -57,7 +49,7 @@ pub fn answer_pair(
     }
 }
 
-fn append_counts(text: &mut Text, counts: Counts) -> Result<(), AllocError>
+pub(crate) fn append_counts(text: &mut Text, counts: Counts) -> Result<(), AllocError>
     ensures { OnOk result (text.new ≡ text.old
         ++ counts_line counts.implied counts.refuted counts.unsettled) }
 {
