@@ -2,7 +2,6 @@
 use Rattle.std.specs.Prelude.{ℕ, List, [], ◌∷◌, codes, nat_eq, if◌then◌else◌, None, Some}
 use Rattle.std.specs.declared.option.Option.{Option}
 use Rattle.std.specs.Option.{option_map}
-use Rattle.std.specs.List.{list_any}
 use Rattle.etp_io.specs.Texts.{LineText, whole, too_long}
 use Rattle.etp_words.specs.Words.{words_of, behind_first, is_word, is_comment}
 use Rattle.etp_words.specs.Numbers.{number_said}
@@ -14,11 +13,21 @@ pub data Query : Type 0 where
   dual : ℕ → Query
   -- the answer for a pair of laws
   ask : ℕ → ℕ → Query
+  -- the answer, and why it is so
+  why : ℕ → ℕ → Query
   files : Query
   counts : Query
+  -- the answers of a law
+  row : ℕ → Query
+  -- the laws that are equivalent to a law
+  class : ℕ → Query
+  classes : Query
+  -- the answers among the laws from the first to the last
+  csv : ℕ → ℕ → Query
+  -- all files, as lines of a session
+  ledger : Query
   -- the laws that hold in the table of the name that this word is to be
   profile : List ℕ → Query
-  not_built : Query
 
 pub data Request : Type 0 where
   -- a blank line or a comment, which asks nothing
@@ -35,10 +44,6 @@ pub data Request : Type 0 where
   -- the word that is to be the name of the file that is taken out
   withdraw : List ℕ → Request
   query : Query → Request
-
--- the words of queries that aren't built yet
-abbrev pub unbuilt : List (List ℕ)
-unbuilt = codes "why" ∷ codes "row" ∷ codes "class" ∷ codes "classes" ∷ codes "csv" ∷ codes "ledger" ∷ []
 
 -- the only word
 abbrev pub only_word : List (List ℕ) → Option (List ℕ)
@@ -70,6 +75,14 @@ abbrev pub lone_query : Query → List (List ℕ) → Option Query
 lone_query q [] = Some q
 lone_query q (word ∷ words) = None
 
+-- the query for a report with this first word and these words behind it
+abbrev pub report_query : List ℕ → List (List ℕ) → Option Query
+report_query word words =
+    if is_word word (codes "row") then option_map row (only_number words) else
+    (if is_word word (codes "class") then option_map class (only_number words) else
+    (if is_word word (codes "classes") then lone_query classes words else
+    (if is_word word (codes "csv") then option_map (λ p. csv p.0 p.1) (only_pair words) else None)))
+
 -- the query with this first word, this text behind it and these words in it
 abbrev pub query_of : List ℕ → List ℕ → List (List ℕ) → Option Query
 query_of word text words =
@@ -77,10 +90,12 @@ query_of word text words =
     (if is_word word (codes "number") then number_query text else
     (if is_word word (codes "dual") then option_map dual (only_number words) else
     (if is_word word (codes "ask") then option_map (λ p. ask p.0 p.1) (only_pair words) else
+    (if is_word word (codes "why") then option_map (λ p. why p.0 p.1) (only_pair words) else
     (if is_word word (codes "files") then lone_query files words else
     (if is_word word (codes "counts") then lone_query counts words else
+    (if is_word word (codes "ledger") then lone_query ledger words else
     (if is_word word (codes "profile") then option_map profile (only_word words) else
-    (if list_any (is_word word) unbuilt then Some not_built else None)))))))
+    report_query word words))))))))
 
 -- a line that is to be a query
 abbrev pub query_request : Option Query → Request

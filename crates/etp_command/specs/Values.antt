@@ -3,7 +3,7 @@ use Rattle.std.specs.Prelude.{ℕ, ◌≤◌, length}
 use Rattle.std.specs.Option.{option_copied}
 use Rattle.etp_command.specs.Requests as Requests
 use Rattle.etp_command.specs.declared.query.Query.{Query}
-use Rattle.etp_command.specs.declared.query.Query.TheVariants.{Law, Number, Dual, Ask, Files, Counts, Profile, NotBuilt}
+use Rattle.etp_command.specs.declared.query.Query.TheVariants.{Law, Number, Dual, Ask, Why, Files, Counts, Row, Class, Classes, Csv, Ledger, Profile}
 use Rattle.etp_command.specs.declared.request.Request.{Request}
 use Rattle.etp_command.specs.declared.request.Request.TheVariants as Program
 use Rattle.etp_command.specs.declared.request.ListOrder.{ListOrder}
@@ -19,10 +19,15 @@ query_from (Law n) = Requests.law n
 query_from (Number text) = Requests.number text.now
 query_from (Dual n) = Requests.dual n
 query_from (Ask e f) = Requests.ask e f
+query_from (Why e f) = Requests.why e f
 query_from Files = Requests.files
 query_from Counts = Requests.counts
+query_from (Row n) = Requests.row n
+query_from (Class n) = Requests.class n
+query_from Classes = Requests.classes
+query_from (Csv first last) = Requests.csv first last
+query_from Ledger = Requests.ledger
 query_from (Profile word) = Requests.profile word.now
-query_from NotBuilt = Requests.not_built
 
 abbrev pub request_from : Request → Requests.Request
 request_from Program.Blank = Requests.blank

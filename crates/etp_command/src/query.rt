@@ -1,9 +1,8 @@
 // Queries, read by their first word and what follows it.
 ghost use Rattle.std.specs.Prelude.{ℕ, ◌≡◌, ◌≤◌, ◌<◌, ◌++◌, ◌∷◌, ◌⊎◌, [], take, drop, length, IfSome, MatchOption, None, Some, not, true};
-ghost use Rattle.std.specs.List.{list_any};
 ghost use Rattle.std.specs.Option.{option_map};
 ghost use Rattle.etp_words.specs.Words.{skip_blanks, words_of, is_word};
-ghost use Rattle.etp_command.specs.Requests.{only_pair, number_query, lone_query, unbuilt, query_of};
+ghost use Rattle.etp_command.specs.Requests.{only_pair, number_query, lone_query, report_query, query_of};
 ghost use Rattle.etp_command.specs.Values.{query_from, IsQueryWithin};
 
 use crate::request::{only_number, only_word};
@@ -18,10 +17,15 @@ pub enum Query<'a> {
     Number(&'a [u8]),
     Dual(u32),
     Ask(u32, u32),
+    Why(u32, u32),
     Files,
     Counts,
+    Row(u32),
+    Class(u32),
+    Classes,
+    Csv(u32, u32),
+    Ledger,
     Profile(&'a [u8]),
-    NotBuilt,
 }
 
 // Two numbers that are the only words.
@@ -61,15 +65,25 @@ fn lone_query<'a>(query: Query<'a>, rest: &[u8]) -> Option<Query<'a>>
     }
 }
 
-fn is_unbuilt(word: &[u8]) -> bool
-    ensures { result ≡ list_any (is_word word.now) unbuilt }
+// A query for a report on the answers.
+fn report_query<'a>(word: &[u8], rest: &'a [u8]) -> Option<Query<'a>>
+    ensures query { option_map query_from result ≡ report_query word.now (words_of rest.now) }
+    ensures within { (most : ℕ) → IfSome result (λ q. IsQueryWithin most q) }
 {
-    is(word, "why")
-        || is(word, "row")
-        || is(word, "class")
-        || is(word, "classes")
-        || is(word, "csv")
-        || is(word, "ledger")
+    if is(word, "row") {
+        return Some(Query::Row(only_number(rest)?));
+    }
+    if is(word, "class") {
+        return Some(Query::Class(only_number(rest)?));
+    }
+    if is(word, "classes") {
+        return lone_query(Query::Classes, rest);
+    }
+    if is(word, "csv") {
+        let (first, last) = only_pair(rest)?;
+        return Some(Query::Csv(first, last));
+    }
+    None
 }
 
 /// Reads a query by its first word and what follows it.
@@ -90,17 +104,21 @@ pub(crate) fn read_query<'a>(word: &[u8], rest: &'a [u8]) -> Option<Query<'a>>
         let (e, f) = only_pair(rest)?;
         return Some(Query::Ask(e, f));
     }
+    if is(word, "why") {
+        let (e, f) = only_pair(rest)?;
+        return Some(Query::Why(e, f));
+    }
     if is(word, "files") {
         return lone_query(Query::Files, rest);
     }
     if is(word, "counts") {
         return lone_query(Query::Counts, rest);
     }
+    if is(word, "ledger") {
+        return lone_query(Query::Ledger, rest);
+    }
     if is(word, "profile") {
         return Some(Query::Profile(only_word(rest)?));
     }
-    if is_unbuilt(word) {
-        return Some(Query::NotBuilt);
-    }
-    None
+    report_query(word, rest)
 }

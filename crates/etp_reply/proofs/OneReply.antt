@@ -4,11 +4,12 @@ use Rattle.etp_theory.specs.LawNumbers.{law_numbered}
 use Rattle.etp_laws.specs.Listing.{IsTheList}
 use Rattle.etp_io.specs.Texts.{LineText}
 use Rattle.etp_ledger.specs.Files.{File}
-use Rattle.etp_command.specs.Requests.{Query, law, number, dual, ask, files as all_files, counts, profile, not_built as not_built_yet, Request, blank, long, bad, order, file, load, withdraw, query, asked}
+use Rattle.etp_command.specs.Requests.{Query, law, number, dual, ask, why, files as all_files, counts, row, class, classes, csv, ledger, profile, Request, blank, long, bad, order, file, load, withdraw, query, asked}
 use Rattle.etp_print.specs.Texts.{Reply}
 use Rattle.etp_show.proofs.OneLaw.{number_reply-only, dual_reply-only}
 use Rattle.etp_profile.proofs.OneProfile.{profile_reply-only}
-use Rattle.etp_survey.proofs.OneAnswer.{ask_reply-only, counts_reply-only}
+use Rattle.etp_survey.proofs.OneAnswer.{ask_reply-only, counts_reply-only, row_reply-only, class_reply-only, classes_reply-only, csv_reply-only}
+use Rattle.etp_evidence.proofs.OneWhy.{why_reply-only}
 use Rattle.etp_desk.specs.States.{Opened, Opens, Filing, State, unopened, over, filing, stopped}
 use Rattle.etp_desk.proofs.Opening.{opens-one}
 use Rattle.etp_filing.specs.FileReplies.{FileReply, BodyReply, goes_on, closes}
@@ -24,10 +25,15 @@ query_reply-only o l (law n) r s a b = a ∙ sym b
 query_reply-only o l (number text) r s a b = number_reply-only o.laws.order o.laws.equations l text r s a b
 query_reply-only o l (dual n) r s a b = dual_reply-only o.laws.order o.laws.equations l n (law_numbered o.laws.equations n) r s a b
 query_reply-only o l (ask e f) r s a b = ask_reply-only o.laws o.files e f r s a b
+query_reply-only o l (why e f) r s a b = why_reply-only o.laws o.files e f r s a b
 query_reply-only o l all_files r s a b = a ∙ sym b
 query_reply-only o l counts r s a b = counts_reply-only o.laws o.files r s a b
+query_reply-only o l (row e) r s a b = row_reply-only o.laws o.files e r s a b
+query_reply-only o l (class e) r s a b = class_reply-only o.laws o.files e r s a b
+query_reply-only o l classes r s a b = classes_reply-only o.laws o.files r s a b
+query_reply-only o l (csv first last) r s a b = csv_reply-only o.laws o.files first last r s a b
+query_reply-only o l ledger r s a b = a ∙ sym b
 query_reply-only o l (profile word) r s a b = profile_reply-only o.laws.order o.laws.equations o.files word r s a b
-query_reply-only o l not_built_yet r s a b = a ∙ sym b
 
 -- the state's list is the one of its order
 pub IsRightState : State → Type 0

@@ -4,12 +4,14 @@ use Rattle.std.specs.declared.option.Option.{Option}
 use Rattle.etp_theory.specs.LawNumbers.{law_numbered}
 use Rattle.etp_io.specs.Texts.{LineText}
 use Rattle.etp_ledger.specs.Files.{File}
-use Rattle.etp_command.specs.Requests.{Query, law, number, dual, ask, files, counts, profile, not_built, Request, blank, long, bad, order, file, load, withdraw, query, asked}
+use Rattle.etp_command.specs.Requests.{Query, law, number, dual, ask, why, files, counts, row, class, classes, csv, ledger, profile, Request, blank, long, bad, order, file, load, withdraw, query, asked}
 use Rattle.etp_print.specs.Texts.{Reply, silent, answered, refused}
 use Rattle.etp_show.specs.LawReplies.{law_reply, NumberReply, DualReply}
 use Rattle.etp_show.specs.FileLists.{files_text}
+use Rattle.etp_show.specs.Printed.{printed_ledger}
 use Rattle.etp_profile.specs.ProfileReplies.{ProfileReply}
-use Rattle.etp_survey.specs.PairReplies.{AskReply, CountsReply}
+use Rattle.etp_survey.specs.PairReplies.{AskReply, CountsReply, RowReply, ClassReply, ClassesReply, CsvReply}
+use Rattle.etp_evidence.specs.WhyReplies.{WhyReply}
 use Rattle.etp_desk.specs.States.{Opened, Opens, State, unopened, over, filing, stopped}
 use Rattle.etp_filing.specs.FileReplies.{BodyReply, FileReply, HasFreeName}
 use Rattle.etp_filing.specs.Filings.{loading}
@@ -22,10 +24,15 @@ QueryReply o (law n) reply = reply ≡ law_reply n (law_numbered o.laws.equation
 QueryReply o (number text) reply = NumberReply o.laws.order o.laws.equations text reply
 QueryReply o (dual n) reply = DualReply o.laws.equations n (law_numbered o.laws.equations n) reply
 QueryReply o (ask e f) reply = AskReply o.laws o.files e f reply
+QueryReply o (why e f) reply = WhyReply o.laws o.files e f reply
 QueryReply o files reply = reply ≡ answered (files_text o.files)
 QueryReply o counts reply = CountsReply o.laws o.files reply
+QueryReply o (row e) reply = RowReply o.laws o.files e reply
+QueryReply o (class e) reply = ClassReply o.laws o.files e reply
+QueryReply o classes reply = ClassesReply o.laws o.files reply
+QueryReply o (csv first last) reply = CsvReply o.laws o.files first last reply
+QueryReply o ledger reply = reply ≡ answered (printed_ledger o.laws.order o.files)
 QueryReply o (profile word) reply = ProfileReply o.laws.order o.laws.equations o.files word reply
-QueryReply o not_built reply = reply ≡ refused (codes "not built")
 
 -- The reply to line n, which loads a file. The shelf is reached only where the word is a name and is
 -- free; the whole bytes of the name are then the body, which their end closes. Where the name isn't
