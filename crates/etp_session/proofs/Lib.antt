@@ -1,7 +1,5 @@
 pub mod Parts
 pub mod SessionLemmas
-pub mod WritingLemmas
-pub mod ListingLemmas
 pub mod OneText
 pub mod Taking
 pub mod GivenTexts

@@ -5,5 +5,3 @@ pub mod Ends
 pub mod SessionEnds
 pub mod Loads
 pub mod Endings
-pub mod Writing
-pub mod Listings

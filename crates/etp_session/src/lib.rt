@@ -1,13 +1,10 @@
 //! Sessions: lines of commands in, lines of answers out.
 #![tactic(auto)]
 
-mod listing;
 mod loading;
 mod serving;
 mod top;
 
-pub use etp_command::ListOrder;
-pub use listing::list_laws;
 pub use serving::{Ending, session};
 pub use top::{one_text, run, run_in_memory};
 

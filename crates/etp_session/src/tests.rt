@@ -1,7 +1,7 @@
 // Whole sessions over the forms in memory, however reads and writes are cut and wherever one fails.
 mod bodies;
 
-use crate::{ListOrder, list_laws, run_in_memory, session};
+use crate::{run_in_memory, session};
 use etp_io::{MemoryShelf, MemorySink, MemorySource, SureShelf};
 use std::alloc::{AllocError, Global};
 
@@ -94,11 +94,7 @@ fn sessions_write_their_text(rt: HostRuntime) {
             "1 x = x\n4694 (x ◇ y) ◇ z = (w ◇ u) ◇ v\nrefused 3: unknown law 0\nrefused 4: unknown law 4695\n",
             1,
         ),
-        plain(
-            "why 1 1\nlwa 1\n",
-            "refused 1: not built\nrefused 2: bad line\n",
-            1,
-        ),
+        plain("why 1 1\nlwa 1\n", "1 1 implied\nrefused 2: bad line\n", 1),
         plain(
             "\norder 5\nlaw 62577\norder 4\n",
             "refused 3: unknown law 62577\nrefused 4: bad line\n",
@@ -345,12 +341,4 @@ fn a_session_in_memory_ends_well(rt: HostRuntime) {
     let bytes = Vec::from_slice(rt.alloc(), b"law 1\n").expect(&rt, "memory");
     let mut shelf = SureShelf::of(rt.alloc());
     assert!(rt; run_in_memory(rt.alloc(), &[], bytes, &mut shelf) == 0);
-}
-
-#[test]
-fn the_list_begins_with_the_first_laws(rt: HostRuntime) {
-    let failing = Vec::from_slice(rt.alloc(), &[2]).expect(&rt, "memory");
-    let mut sink = MemorySink::of(rt.alloc(), 10000, 30, failing).expect(&rt, "memory");
-    assert!(rt; list_laws(rt.alloc(), ListOrder::Four, &mut sink) == 4);
-    assert!(rt; sink.taken() == "1 x = x\n2 x = y\n3 x = x ◇ x\n".as_bytes());
 }

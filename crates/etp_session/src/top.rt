@@ -3,7 +3,10 @@ ghost use Rattle.std.specs.String.{string_bytes};
 ghost use Rattle.etp_io.specs.Causes.{Rose};
 ghost use Rattle.etp_command.specs.Arguments.{task_of, IsTask};
 ghost use Rattle.etp_command.specs.Values.{operations_of};
-ghost use Rattle.etp_session.specs.Listings.{WritesLaws};
+ghost use Rattle.etp_tasks.specs.Listings.{WritesLaws};
+ghost use Rattle.etp_tasks.specs.Scripts.{IsScriptOf};
+ghost use Rattle.etp_tasks.specs.Searches.{IsSearchOf};
+ghost use Rattle.etp_tasks.specs.Writing.{WritesSome};
 ghost use Rattle.etp_session.specs.Streams.{streams};
 ghost use Rattle.etp_session.specs.Protocols.{ledger_protocol};
 ghost use Rattle.etp_session.specs.Sessions.{IsSession, IsWholeSession};
@@ -12,10 +15,10 @@ ghost use Rattle.etp_io.specs.Kept.{kept_or_empty};
 ghost use Rattle.std.specs.declared.option.Option.{Option};
 ghost use Rattle.etp_reply.specs.Shelves.{known};
 
-use crate::listing::list_laws;
 use crate::serving::session;
 use etp_command::{ListOrder, Task, task_of};
 use etp_io::{Shelf, Sink, Source, SureShelf, SureSink, SureSource};
+use etp_tasks::{Search, list_laws, write_script, write_search};
 use std::alloc::Global;
 
 /// The most bytes of a source.
@@ -24,8 +27,10 @@ const LIMIT: u64 = 134_217_728;
 /// Does what the words of the command line ask, and answers the status.
 ///
 /// The word `session`, or no word, asks for a session with a limit of 134217728 bytes; `laws` and
-/// `laws 5` ask for the list of the laws of at most four, or five, operations. With any other words
-/// the status is 2, and nothing is read or written.
+/// `laws 5` ask for the list of the laws of at most four, or five, operations; `generate K N` for K
+/// generated files of the seed N, K from 1 to 10000; `shortest E F LEAVES STEPS` for a shortest proof
+/// of law F from law E over terms of at most LEAVES leaves, 1 to 6, in at most STEPS steps, 0 to 12.
+/// With any other words the status is 2, and nothing is read or written.
 pub fn run<S: Source, K: Sink, H: Shelf>(
     alloc: Global,
     words: &[String],
@@ -49,6 +54,15 @@ pub fn run<S: Source, K: Sink, H: Shelf>(
     // The list of laws: at 0 all was written, at 4 and 5 a prefix, and nothing was read.
     ensures laws { (order : ListOrder) → IsTask (map string_bytes words.now) (Task.Laws order)
         → WritesLaws (operations_of order) (K.took sink.old) (K.took sink.new) result }
+
+    // Generated files, and the search for a shortest proof: at 0 the text was written, at 4 a prefix,
+    // at 5 nothing.
+    ensures generate { (count seed : ℕ)
+        → IsTask (map string_bytes words.now) (Task.Generate count seed)
+        → WritesSome (IsScriptOf count seed) (K.took sink.old) (K.took sink.new) result }
+    ensures shortest { (e f leaves steps : ℕ)
+        → IsTask (map string_bytes words.now) (Task.Shortest e f leaves steps)
+        → WritesSome (IsSearchOf e f leaves steps) (K.took sink.old) (K.took sink.new) result }
     ensures unread { (IsTask (map string_bytes words.now) Task.Session → ⊥)
         → (source.new ≡ source.old) × (shelf.new ≡ shelf.old) }
 
@@ -60,6 +74,21 @@ pub fn run<S: Source, K: Sink, H: Shelf>(
     match task_of(words) {
         Task::Session => session(alloc, LIMIT, source, sink, shelf),
         Task::Laws(order) => list_laws(alloc, order, sink),
+        Task::Generate { count, seed } => write_script(alloc, count, seed, sink),
+        Task::Shortest {
+            hypothesis,
+            goal,
+            leaves,
+            steps,
+        } => {
+            let search = Search {
+                hypothesis,
+                goal,
+                leaves,
+                steps,
+            };
+            write_search(alloc, search, sink)
+        }
         Task::Unknown => 2,
     }
 }

@@ -1,9 +1,9 @@
 use Rattle.std.proofs.Common.{arith, ◌≡◌, ◌∙◌, sym, ap, None, Some, refl}
 use Rattle.std.specs.Option.{option_map, option_copied, IsSome}
 use Rattle.etp_term.specs.Laws.{equation_of}
-use Rattle.etp_session.proofs.ListingLemmas.{listed-next, listing-ends, listing-cut, listing-cut_last, some-law}
-use Rattle.etp_session.proofs.WritingLemmas.{writes-no_memory, writes-no_write}
-use Rattle.etp_session.proofs.listing.write_laws.Goals as goal
+use Rattle.etp_tasks.proofs.ListingLemmas.{listed-next, listing-ends, listing-cut, listing-cut_last, some-law}
+use Rattle.etp_tasks.proofs.WritingLemmas.{writes-no_memory, writes-no_write}
+use Rattle.etp_tasks.proofs.listing.write_laws.Goals as goal
 
 pub unwrap-law-requires : goal.unwrap-law-requires
 unwrap-law-requires g c =

@@ -2,8 +2,8 @@ ghost use Rattle.std.specs.Prelude.{◌≡◌, OnOk, OnErr};
 ghost use Rattle.etp_io.specs.Causes.{Rose, HasCause};
 ghost use Rattle.etp_io.specs.Stream.{AppendsPrefix};
 ghost use Rattle.etp_command.specs.Values.{operations_of};
-ghost use Rattle.etp_session.specs.Listings.{laws_text, WritesLaws, MovesFront};
-ghost use Rattle.etp_session.specs.Writing.{WritesText};
+ghost use Rattle.etp_tasks.specs.Listings.{laws_text, WritesLaws, MovesFront};
+ghost use Rattle.etp_tasks.specs.Writing.{WritesText};
 
 use etp_command::ListOrder;
 use etp_io::{Failed, Sink, write_all};

@@ -1,6 +1,6 @@
 use Rattle.etp_laws.proofs.TheList.{laws_upto_is}
-use Rattle.etp_session.proofs.WritingLemmas.{writes-none}
-use Rattle.etp_session.proofs.listing.list_laws.Goals as goal
+use Rattle.etp_tasks.proofs.WritingLemmas.{writes-none}
+use Rattle.etp_tasks.proofs.listing.list_laws.Goals as goal
 
 pub returns-in-Ok-clause-laws : goal.returns-in-Ok-clause-laws
 returns-in-Ok-clause-laws g c = record { laws = _; the_list = rw c.operations.ensures.value at c.in-Ok.ensures.list; writes = c.write_laws.ensures.laws }

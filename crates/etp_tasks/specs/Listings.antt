@@ -5,7 +5,7 @@ use Rattle.std.specs.Io.KnownBytes.{Appends}
 use Rattle.etp_theory.specs.Trees.{Equation}
 use Rattle.etp_laws.specs.Listing.{IsTheList}
 use Rattle.etp_show.specs.LawReplies.{law_line}
-use Rattle.etp_session.specs.Writing.{WritesText}
+use Rattle.etp_tasks.specs.Writing.{WritesText}
 
 -- the lines of laws that are numbered from n on
 abbrev pub laws_from : ℕ → List Equation → List ℕ

@@ -2,7 +2,7 @@
 use Rattle.std.proofs.Common.{ℕ, List, [], refl, Option, inl, inr}
 use Rattle.etp_io.specs.Stream.{AppendsPrefix}
 use Rattle.etp_io.proofs.CallLemmas.{Appends-none, IsPrefix-none}
-use Rattle.etp_session.specs.Writing.{WritesText}
+use Rattle.etp_tasks.specs.Writing.{WritesText}
 
 pub writes-no_write : (text : List ℕ) (took0 took : Option (List ℕ)) → AppendsPrefix took0 took text → WritesText text took0 took 4
 writes-no_write text took0 took w = record { whole = λ e. absurd (cc); cut = λ _. w; statuses = inr (inl refl) }

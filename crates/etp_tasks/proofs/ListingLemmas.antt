@@ -10,7 +10,7 @@ use Rattle.etp_theory.specs.Trees.{Equation}
 use Rattle.etp_theory.specs.LawNumbers.{law_numbered}
 use Rattle.etp_laws.proofs.Entries.{entry_after}
 use Rattle.etp_show.specs.LawReplies.{law_line}
-use Rattle.etp_session.specs.Listings.{laws_from, laws_text, MovesFront}
+use Rattle.etp_tasks.specs.Listings.{laws_from, laws_text, MovesFront}
 
 no_law : {X : Type 0} (i : ℕ) (p : Equation) → slice_get [] i ≡ Some p → X
 no_law i p e = grind (arith, common_steps)

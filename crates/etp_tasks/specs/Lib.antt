@@ -1,0 +1,4 @@
+pub mod Writing
+pub mod Listings
+pub mod Scripts
+pub mod Searches
