@@ -1,0 +1,4 @@
+pub mod FirstWords
+pub mod Kept
+pub mod PrintedLines
+pub mod Again
