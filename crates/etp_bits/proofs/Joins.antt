@@ -11,7 +11,7 @@ use Rattle.etp_bits.specs.Words.{lit, JoinsWords, JoinsBits, LitInOne, IsLaidOut
 use Rattle.etp_bits.proofs.Lines.{bits_and_not}
 use Rattle.etp_bits.specs.Bits.{Bits, bit}
 use Rattle.etp_bits.proofs.Rows.{joined_lit, either_bit, bit_within, bit_below, bit_past, bit_in_words, needed_lit}
-use Rattle.etp_bits.proofs.Tests.{or_none, nat_lt-more}
+use Rattle.etp_bits.proofs.NumberTests.{or_none, nat_lt-more}
 
 or_or : (a b c d : Bool) → d ≡ (b || c) → ((a || b) || c) ≡ (a || d)
 or_or true b c d h = refl

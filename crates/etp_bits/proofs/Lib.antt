@@ -1,4 +1,4 @@
-pub mod Tests
+pub mod NumberTests
 pub mod Counting
 mod Lines
 mod Rows

@@ -13,7 +13,7 @@ use Rattle.etp_bits.specs.Bits.{Bits, bit, IsBlank, Resizes}
 use Rattle.etp_bits.specs.Counts.{count_below}
 use Rattle.etp_bits.specs.Words.{lit, bits_of, IsLaidOut, JoinsWords, Spreads, Regrows}
 use Rattle.etp_bits.proofs.Counting.{count_below-past, count_below-same}
-use Rattle.etp_bits.proofs.Tests.{or_none}
+use Rattle.etp_bits.proofs.NumberTests.{or_none}
 
 get_made : {X : Type 0} (f : ℕ → X) (n i : ℕ) (d : X) → get_or (map f (range_with_len 0 n)) i d ≡ (if nat_lt i n then f i else d)
 get_made f n i d =

@@ -9,4 +9,4 @@ pub use matrix::Matrix;
 pub use numbers::Numbers;
 
 #[cfg(test)]
-mod trials;
+mod tests;

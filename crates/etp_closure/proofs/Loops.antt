@@ -2,7 +2,7 @@
 use Rattle.std.proofs.Common.{◌≡◌, ℕ, ◌+◌, ◌≤◌, Bool, true, false, ◌&&◌, ◌||◌, nat_eq, nat_lt, nat_le, refl, sym, ◌∙◌, inl, inr, arith}
 use Rattle.std.proofs.lemmas.Bool.{cases_eq, eq-eqb, ne_eqb, lt-ltb, le-leb, or_right, and_right}
 use Rattle.std.proofs.Math.Bool.{or-false}
-use Rattle.etp_bits.proofs.Tests.{nat_lt-more}
+use Rattle.etp_bits.proofs.NumberTests.{nat_lt-more}
 
 -- the marked rows below n have the line joined to them
 abbrev pub JoinedBelow : (ℕ → ℕ → Bool) → (ℕ → ℕ → Bool) → (ℕ → Bool) → (ℕ → Bool) → ℕ → Type 0
