@@ -1,5 +1,5 @@
 -- A matrix-linear magma with one line more.
-use Rattle.std.proofs.Common.{◌≡◌, ℕ, ◌+◌, ◌<◌, ◌≤◌, ◌⊎◌, inl, inr, arith, Bool, true, false, List, [], ◌∷◌, ◌++◌, length, map, nat_eq, nat_le, nat_lt, refl, sym, ap, ◌∙◌, Option, Some, None, IfOk, Result, Ok, Err, append_assoc, append-nil, length-append, eqb-true}
+use Rattle.std.proofs.Common.{◌≡◌, ℕ, ◌+◌, ◌<◌, ◌≤◌, ◌⊎◌, inl, inr, arith, Bool, true, false, List, [], ◌∷◌, ◌++◌, length, map, nat_eq, nat_le, nat_lt, refl, sym, ap, ◌∙◌, Some, IfOk, Result, Ok, Err, append-nil, length-append, eqb-true}
 use Rattle.std.specs.Option.{option_map}
 use Rattle.std.specs.List.{concat}
 use Rattle.std.proofs.lemmas.Bool.{le-leb, lt-ltb, eq-eqb, leb-true, ltb-true, cases_lt}
@@ -8,7 +8,7 @@ use Rattle.etp_matrix.specs.declared.parts.Part.{Part}
 use Rattle.etp_matrix.specs.declared.parts.Part.TheVariants.{A, B, C}
 use Rattle.etp_lines.specs.MatrixLines.{MatrixLine, matrix, row, awaits, after_in_matrix, has_all, rows_of, SaysRows}
 use Rattle.etp_lines.specs.BodyLines as Lines
-use Rattle.etp_lines.specs.BodyLines.{Line, of_proofs, of_tables, of_linear, of_matrices, of_claims, Head, opened_head, next_head, matrix_line}
+use Rattle.etp_lines.specs.BodyLines.{Line, of_proofs, of_tables, of_linear, of_matrices, of_rules, of_claims, Head, opened_head, next_head, matrix_line}
 use Rattle.etp_items.specs.Work.{HasMatrixRows, matrix_place, matrix_said, matrix_told, with_entries, OpensMatrix, TakesMatrixRow, TakesInMatrix, OpensHead, TakesInHead}
 use Rattle.etp_items.specs.declared.matrix.work.MatrixWork.{MatrixWork}
 use Rattle.etp_items.specs.declared.magma.MagmaWork.TheVariants.{Matrix}
@@ -255,6 +255,7 @@ matrix_keeps w (of_proofs, said) none head saids h = ap (λ (z : Head). next_hea
 matrix_keeps w (of_tables, said) none head saids h = ap (λ (z : Head). next_head z (of_tables, said)) h.4
 matrix_keeps w (of_linear, said) none head saids h = ap (λ (z : Head). next_head z (of_linear, said)) h.4
 matrix_keeps w (of_matrices, said) none head saids h = absurd none
+matrix_keeps w (of_rules, said) none head saids h = ap (λ (z : Head). next_head z (of_rules, said)) h.4
 matrix_keeps w (of_claims, said) none head saids h = ap (λ (z : Head). next_head z (of_claims, said)) h.4
 
 -- the lines of all rows tell the magma

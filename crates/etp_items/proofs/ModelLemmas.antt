@@ -8,7 +8,7 @@ use Rattle.std.proofs.lemmas.List.Elements.{All-push}
 use Rattle.etp_lines.specs.TableLines.{TableLine, table, row, after_in_table}
 use Rattle.etp_lines.specs.Claims.{ClaimLine, holds, fails, ClaimPlace, failing, first_claim, after_claim}
 use Rattle.etp_lines.specs.BodyLines as Lines
-use Rattle.etp_lines.specs.BodyLines.{Line, of_proofs, of_tables, of_linear, of_matrices, of_claims, Head, opened_head, next_head, BeginsNoProof, Place, opening, in_head, in_claims, table_line, claim_line, after_opening, after_head, after, is_told, is_complete}
+use Rattle.etp_lines.specs.BodyLines.{Line, of_proofs, of_tables, of_linear, of_matrices, of_rules, of_claims, Head, opened_head, next_head, BeginsNoProof, Place, opening, in_head, in_claims, table_line, rules_line, claim_line, after_opening, after_head, after, is_told, is_complete}
 use Rattle.etp_items.specs.Bodies.{model, claims_of}
 use Rattle.etp_items.specs.Reading.{SaysModel}
 use Rattle.etp_items.specs.Work.{HasRows, OpensTable, rows_place, TakesRow, matrix_said, claim_at, TakesInTable, HasHead, OpensHead, TakesInHead, is_told_by, told_by, claim_place, OpensClaims, TakesInClaims, HasModel, HasCome, Takes, IsWhole}
@@ -16,11 +16,12 @@ use Rattle.etp_items.specs.declared.table.work.TableWork.{TableWork}
 use Rattle.etp_items.specs.declared.claims.work.ClaimsWork.{ClaimsWork}
 use Rattle.etp_lines.specs.declared.linear.LinearLine.{LinearLine}
 use Rattle.etp_items.specs.declared.magma.MagmaWork.{MagmaWork}
-use Rattle.etp_items.specs.declared.magma.MagmaWork.TheVariants.{Table, Linear, Matrix}
+use Rattle.etp_items.specs.declared.magma.MagmaWork.TheVariants.{Table, Linear, Matrix, Rules}
 use Rattle.etp_items.specs.declared.model.ModelWork.{ModelWork}
 use Rattle.etp_items.specs.declared.work.Work.{Work}
 use Rattle.etp_items.specs.declared.work.Work.TheVariants.{Opening, Model}
 use Rattle.etp_items.proofs.MatrixLemmas.{matrix_says}
+use Rattle.etp_items.proofs.RulesLemmas.{rules_say}
 
 map_end : {A B : Type 0} (f : A → B) (xs : List A) (x : A) → map f (xs ++ x ∷ []) ≡ map f xs ++ f x ∷ []
 map_end f [] x = refl
@@ -168,6 +169,7 @@ table_keeps w (of_proofs, said) none head saids h = ap (λ (z : Head). next_head
 table_keeps w (of_tables, said) none head saids h = absurd none
 table_keeps w (of_linear, said) none head saids h = ap (λ (z : Head). next_head z (of_linear, said)) h.2
 table_keeps w (of_matrices, said) none head saids h = ap (λ (z : Head). next_head z (of_matrices, said)) h.2
+table_keeps w (of_rules, said) none head saids h = ap (λ (z : Head). next_head z (of_rules, said)) h.2
 table_keeps w (of_claims, said) none head saids h = ap (λ (z : Head). next_head z (of_claims, said)) h.2
 
 -- one line tells a linear magma
@@ -179,12 +181,14 @@ told_as : (m : MagmaWork) (head : Head) (saids : List Line) → HasHead m head s
 told_as (Table w) head saids (rows, h, p, s) = ap is_told p ∙ ap (λ n. nat_eq n w.size) (sym h.count_is)
 told_as (Linear l) head saids h = ap is_told h.0
 told_as (Matrix w) head saids (a, b, c, h, p, s) = ap is_told p
+told_as (Rules w) head saids (h, p, s) = ap is_told p
 
 -- the lines of a magma that is told tell it
 told_says : (m : MagmaWork) (head : Head) (saids : List Line) → HasHead m head saids → is_told head ≡ true → SaysModel saids (told_by m)
 told_says (Table w) head saids (rows, h, p, s) told = (table w.size ∷ map row rows, s, record { rows = rows; whole = refl; entries_are = h.entries_are })
 told_says (Linear l) head saids h told = h.1
 told_says (Matrix w) head saids (a, b, c, h, p, s) told = (matrix_said w a b c, s, matrix_says w a b c h (sym (ap is_told p) ∙ told))
+told_says (Rules w) head saids (h, p, s) told = s ∙ ap (map rules_line) (rules_say w (sym (ap is_told p) ∙ told))
 
 -- a line that is none of claims
 abbrev pub IsNoClaim : Line → Type 0
@@ -196,6 +200,7 @@ after_told head (of_proofs, said) none = refl
 after_told head (of_tables, said) none = refl
 after_told head (of_linear, said) none = refl
 after_told head (of_matrices, said) none = refl
+after_told head (of_rules, said) none = refl
 after_told head (of_claims, said) none = absurd none
 
 after_claims : (place : ClaimPlace) (said : Line) → IsNoClaim said → after (in_claims place) said ≡ None
@@ -203,6 +208,7 @@ after_claims place (of_proofs, said) none = refl
 after_claims place (of_tables, said) none = refl
 after_claims place (of_linear, said) none = refl
 after_claims place (of_matrices, said) none = refl
+after_claims place (of_rules, said) none = refl
 after_claims place (of_claims, said) none = absurd none
 
 -- the work goes on as its magma does
@@ -237,6 +243,13 @@ pub head_shut : (w : ModelWork) (c : ClaimsWork) (said : Line) → IsNoClaim sai
 head_shut w c said none e place saids h =
     let k : HasModel w.magma (Some c) place saids = subst (λ o. HasModel w.magma o place saids) e h in
     ap (λ (z : Place). after z said) k.6 ∙ after_claims (claim_place c) said none
+
+some_is : {A : Type 0} (o : Option A) → is_some o ≡ true → (a : A) × (o ≡ Some a)
+some_is (Some a) e = (a, refl)
+some_is None e = absurd (true_false (sym e))
+
+pub head_shut_at : (w : ModelWork) (said : Line) → IsNoClaim said → is_some w.claims ≡ true → Takes (Model w) said (Model w) false
+head_shut_at w said none stands = let c = some_is w.claims stands in head_shut w c.0 said none c.1
 
 -- and as its claims do
 pub claims_take : (m : MagmaWork) (old new : ClaimsWork) (said : ClaimLine) (taken : Bool) → TakesInClaims old said new taken
@@ -291,6 +304,7 @@ after_first (of_proofs, said) none = absurd none
 after_first (of_tables, said) none = refl
 after_first (of_linear, said) none = refl
 after_first (of_matrices, said) none = refl
+after_first (of_rules, said) none = refl
 after_first (of_claims, said) none = refl
 
 pub magma_opens : (old : Work) (said : Line) (w : MagmaWork) → old ≡ Opening → BeginsNoProof said → OpensHead said (Some w) → Takes old said (Model (record { magma = w; claims = None })) true

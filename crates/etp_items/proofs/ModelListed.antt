@@ -6,8 +6,9 @@ use Rattle.etp_theory.specs.LawNumbers.{IsLaw}
 use Rattle.etp_reading.specs.Reading.{AreListed}
 use Rattle.etp_lines.specs.TableLines.{TableLine, table, row}
 use Rattle.etp_lines.specs.MatrixLines.{MatrixLine}
+use Rattle.etp_lines.specs.RulesLines.{RulesLine, system_lines}
 use Rattle.etp_lines.specs.Claims.{ClaimLine, holds, fails, Claims}
-use Rattle.etp_lines.specs.BodyLines.{Line, table_line, linear_line, matrix_line, claim_line, numbers_of, bodies}
+use Rattle.etp_lines.specs.BodyLines.{Line, table_line, linear_line, matrix_line, rules_line, claim_line, numbers_of, bodies}
 use Rattle.etp_items.specs.Bodies as Bodies
 use Rattle.etp_items.specs.Bodies.{Model}
 use Rattle.etp_items.specs.Reading.{SaysModel, SaysClaimed}
@@ -26,10 +27,15 @@ matrices_past : (count : ℕ) (ms : List MatrixLine) (ls : List Line) → AreLis
 matrices_past count [] ls h = h
 matrices_past count (m ∷ ms) ls h = matrices_past count ms ls (All-tail (HasListed count) (matrix_line m) (map matrix_line ms ++ ls) h)
 
+rules_past : (count : ℕ) (ms : List RulesLine) (ls : List Line) → AreListed bodies count (map rules_line ms ++ ls) → AreListed bodies count ls
+rules_past count [] ls h = h
+rules_past count (m ∷ ms) ls h = rules_past count ms ls (All-tail (HasListed count) (rules_line m) (map rules_line ms ++ ls) h)
+
 -- the lines of a magma have no law numbers
 head_past : (count : ℕ) (head : List Line) (m : Model) (ls : List Line) → SaysModel head m → AreListed bodies count (head ++ ls) → AreListed bodies count ls
 head_past count head (Bodies.table size entries) ls (lines, e, s) h = tables_past count lines ls (subst (λ (z : List Line). AreListed bodies count (z ++ ls)) e h)
 head_past count head (Bodies.matrix g) ls (lines, e, s) h = matrices_past count lines ls (subst (λ (z : List Line). AreListed bodies count (z ++ ls)) e h)
+head_past count head (Bodies.rules w rs) ls e h = rules_past count (system_lines w rs) ls (subst (λ (z : List Line). AreListed bodies count (z ++ ls)) e h)
 head_past count head (Bodies.linear l) ls e h = All-tail (HasListed count) (linear_line l) ls (subst (λ (z : List Line). AreListed bodies count (z ++ ls)) e h)
 
 held_listed : (count : ℕ) (hs : List (List ℕ)) (rest : List ClaimLine) → AreListed bodies count (map claim_line (map holds hs ++ rest)) → All (IsLaw count) (concat hs) × AreListed bodies count (map claim_line rest)
@@ -74,9 +80,14 @@ matrices_back : (count : ℕ) (ms : List MatrixLine) (ls : List Line) → AreLis
 matrices_back count [] ls h = h
 matrices_back count (m ∷ ms) ls h = All-cons (HasListed count) (matrix_line m) (map matrix_line ms ++ ls) (All-nil (IsLaw count)) (matrices_back count ms ls h)
 
+rules_back : (count : ℕ) (ms : List RulesLine) (ls : List Line) → AreListed bodies count ls → AreListed bodies count (map rules_line ms ++ ls)
+rules_back count [] ls h = h
+rules_back count (m ∷ ms) ls h = All-cons (HasListed count) (rules_line m) (map rules_line ms ++ ls) (All-nil (IsLaw count)) (rules_back count ms ls h)
+
 head_back : (count : ℕ) (m : Model) (ls : List Line) → AreListed bodies count ls → AreListed bodies count (head_lines m ++ ls)
 head_back count (Bodies.table size entries) ls h = tables_back count (table size ∷ map row (cut size entries)) ls h
 head_back count (Bodies.matrix g) ls h = matrices_back count (matrix_lines g) ls h
+head_back count (Bodies.rules w rs) ls h = rules_back count (system_lines w rs) ls h
 head_back count (Bodies.linear l) ls h = All-cons (HasListed count) (linear_line l) ls (All-nil (IsLaw count)) h
 
 front_of : (count : ℕ) (xs ys : List ℕ) → All (IsLaw count) (xs ++ ys) → All (IsLaw count) xs × All (IsLaw count) ys

@@ -1,151 +1,31 @@
 -- The written lines of a magma and its claims are read back.
-use Rattle.std.proofs.Common.{◌≡◌, ℕ, zero, suc, ◌+◌, ◌*◌, ◌<◌, ◌≤◌, ◌^◌, arith, true, nat_le, nat_lt, nat_eq, List, [], ◌∷◌, ◌++◌, length, take, drop, map, codes, decimal, refl, sym, ap, subst, ◌∙◌, inr, Some, append-nil, length-append, suc-mul}
-use Rattle.std.specs.List.{list_all, AllByRecursion}
+use Rattle.std.proofs.Common.{◌≡◌, ℕ, zero, suc, ◌+◌, ◌*◌, ◌<◌, ◌≤◌, arith, true, nat_le, nat_lt, nat_eq, List, [], ◌∷◌, ◌++◌, length, take, drop, map, refl, sym, ap, subst, ◌∙◌, Some, suc-mul}
+use Rattle.std.specs.List.{AllByRecursion}
 use Rattle.std.proofs.lemmas.Bool.{le-leb, lt-ltb, eq-eqb}
 use Rattle.std.proofs.lemmas.List.{length-take, length-drop}
 use Rattle.std.proofs.lemmas.List.Elements.{recursion_from_All}
-use Rattle.std.proofs.lemmas.Fmt.{length-decimal-le}
 use Rattle.etp_io.specs.Texts.{LineText, lines_of}
-use Rattle.etp_words.specs.Words.{words_of}
 use Rattle.etp_reading.specs.Reading.{Reads, AreWhole}
 use Rattle.etp_matrix.specs.declared.parts.Part.{Part}
 use Rattle.etp_matrix.specs.declared.parts.Part.TheVariants.{A, B, C}
 use Rattle.etp_lines.specs.TableLines.{table, row}
 use Rattle.etp_lines.specs.MatrixLines as Matrices
-use Rattle.etp_lines.specs.MatrixLines.{part_word, awaits, rows_of}
-use Rattle.etp_lines.specs.Claims.{ClaimLine, holds, fails, holding, failing, Claims, numbers_said, SaysNumbers}
+use Rattle.etp_lines.specs.MatrixLines.{awaits, rows_of}
+use Rattle.etp_lines.specs.RulesLines.{weighed, system_lines}
+use Rattle.etp_lines.specs.Claims.{ClaimLine, holds, fails, holding, failing, Claims}
 use Rattle.etp_lines.specs.BodyLines as Lines
-use Rattle.etp_lines.specs.BodyLines.{Line, of_proofs, of_tables, of_linear, of_matrices, of_claims, Head, is_told, Place, opening, in_head, in_claims, table_line, linear_line, matrix_line, claim_line, Says, after, after_opening, bodies}
+use Rattle.etp_lines.specs.BodyLines.{Line, Head, is_told, Place, opening, in_head, in_claims, table_line, linear_line, matrix_line, rules_line, claim_line, after, bodies}
 use Rattle.etp_matrix.specs.Magmas.{MatrixMagma}
 use Rattle.etp_items.specs.Bodies as Bodies
 use Rattle.etp_items.specs.Bodies.{Model, model}
 use Rattle.etp_items.specs.Reading.{SaysModel, SaysClaimed}
-use Rattle.etp_items.specs.Written.{written_by, written_proof_line, spaced_behind, written_numbers, written_table_line, written_linear, written_matrix_line, written_claim_line, pieces, cut, matrix_lines, model_text, claim_lines, written_body, IsWritableLinear, IsWritableMatrix, IsWritableModel, AreWritableClaims}
-use Rattle.etp_items.proofs.ReadBack.{joined, together, is_text, graph_text, IsWord, words_front, words_last, decimal_number, decimal_word}
+use Rattle.etp_items.specs.Written.{written_by, written_table_line, written_claim_line, pieces, cut, matrix_lines, model_text, claim_lines, written_body, IsWritableMatrix, IsWritableModel, IsShortModel, AreWritableClaims}
+use Rattle.etp_items.proofs.ReadBack.{together}
 use Rattle.etp_items.proofs.NumberLemmas.{cut_joined, written_join, written_map}
-use Rattle.etp_items.proofs.LinearLemmas.{linear_back, linear_text}
 use Rattle.etp_items.proofs.MatrixRows.{rows_split}
-use Rattle.etp_items.proofs.TextLines.{as_given, IsTextLine, lines_back}
-
--- numbers below 2^32
-abbrev pub Small : ℕ → Type 0
-Small n = n < 2 ^ 32
-
-words_spaced : (w : List ℕ) → IsWord w → (ns : List ℕ) → AllByRecursion Small ns → words_of (w ++ spaced_behind ns) ≡ w ∷ map decimal ns
-words_spaced w h [] small = ap words_of (append-nil w) ∙ words_last w h
-words_spaced w h (n ∷ ns) small =
-    words_front w (decimal n ++ spaced_behind ns) h ∙ ap (λ z. w ∷ z) (words_spaced (decimal n) (decimal_word n small.0) ns small.1)
-
-decimals_said : (ns : List ℕ) → AllByRecursion Small ns → numbers_said (map decimal ns) ≡ Some ns
-decimals_said [] small = refl
-decimals_said (n ∷ ns) small = rw (decimal_number n small.0, decimals_said ns small.1) refl
-
-pub numbers_back : (word ns : List ℕ) → IsWord word → AllByRecursion Small ns → SaysNumbers (written_numbers word ns) word ns
-numbers_back word ns h small = record { more = map decimal ns; words = words_spaced word h ns small; said = decimals_said ns small }
-
-spaced_text : (ns : List ℕ) → AllByRecursion Small ns → list_all is_text (spaced_behind ns) ≡ true
-spaced_text [] small = refl
-spaced_text (n ∷ ns) small = joined is_text (decimal n) (spaced_behind ns) (graph_text (decimal n) (decimal_word n small.0).graph) (spaced_text ns small.1)
-
-spaced_length : (ns : List ℕ) → AllByRecursion Small ns → length (spaced_behind ns) ≤ length ns * 11
-spaced_length [] small = omega arith
-spaced_length (n ∷ ns) small =
-    let one : length (decimal n) ≤ 10 = length-decimal-le 10 n (omega arith) (omega (arith, small.0)) (omega (arith, small.0)) in
-    let on = spaced_length ns small.1 in
-    let many : length (n ∷ ns) * 11 ≡ length ns * 11 + 11 = suc-mul (length ns) 11 in
-    omega (arith, length-append (decimal n) (spaced_behind ns))
-
--- a line of few numbers is short plain text
-numbers_text : (word ns : List ℕ) → IsWord word → length word ≤ 6 → length ns ≤ 255 → AllByRecursion Small ns
-    → (list_all is_text (written_numbers word ns) ≡ true) × (length (written_numbers word ns) ≤ 4096)
-numbers_text word ns h short few small = (
-  joined is_text word (spaced_behind ns) (graph_text word h.graph) (spaced_text ns small),
-  omega (arith, length-append word (spaced_behind ns), spaced_length ns small),
-)
-
-table_word : IsWord (codes "table")
-table_word = record { some = omega arith; graph = refl }
-
-row_word : IsWord (codes "row")
-row_word = record { some = omega arith; graph = refl }
-
-matrix_word : IsWord (codes "matrix")
-matrix_word = record { some = omega arith; graph = refl }
-
-part_is_word : (p : Part) → IsWord (part_word p)
-part_is_word A = record { some = omega arith; graph = refl }
-part_is_word B = record { some = omega arith; graph = refl }
-part_is_word C = record { some = omega arith; graph = refl }
-
-part_short : (p : Part) → length (part_word p) ≤ 6
-part_short A = omega arith
-part_short B = omega arith
-part_short C = omega arith
-
-holds_word : IsWord (codes "holds")
-holds_word = record { some = omega arith; graph = refl }
-
-fails_word : IsWord (codes "fails")
-fails_word = record { some = omega arith; graph = refl }
-
--- each line by its words
-abbrev pub written_any : Line → List ℕ
-written_any (of_proofs, said) = written_proof_line said
-written_any (of_tables, said) = written_table_line said
-written_any (of_linear, said) = written_linear said
-written_any (of_matrices, said) = written_matrix_line said
-written_any (of_claims, said) = written_claim_line said
-
--- a line of numbers that are small and not too many, or of a magma that can be written
-abbrev pub IsFewLine : Line → Type 0
-IsFewLine (of_proofs, said) = ⊥
-IsFewLine (of_tables, table size) = Small size
-IsFewLine (of_tables, row entries) = (length entries ≤ 255) × AllByRecursion Small entries
-IsFewLine (of_linear, l) = IsWritableLinear l
-IsFewLine (of_matrices, Matrices.matrix modulus size) = Small modulus × Small size
-IsFewLine (of_matrices, Matrices.row part entries) = (length entries ≤ 255) × AllByRecursion Small entries
-IsFewLine (of_claims, holds numbers) = (0 < length numbers) × (length numbers ≤ 255) × AllByRecursion Small numbers
-IsFewLine (of_claims, fails numbers) = (0 < length numbers) × (length numbers ≤ 255) × AllByRecursion Small numbers
-
-few_text : (l : Line) → IsFewLine l → IsTextLine written_any l
-few_text (of_proofs, said) h = absurd h
-few_text (of_tables, table size) h = numbers_text (codes "table") (size ∷ []) table_word (omega arith) (omega arith) (h, tt)
-few_text (of_tables, row entries) h = numbers_text (codes "row") entries row_word (omega arith) h.0 h.1
-few_text (of_linear, l) h = linear_text l h
-few_text (of_matrices, Matrices.matrix modulus size) h = numbers_text (codes "matrix") (modulus ∷ size ∷ []) matrix_word (omega arith) (omega arith) (h.0, (h.1, tt))
-few_text (of_matrices, Matrices.row part entries) h = numbers_text (part_word part) entries (part_is_word part) (part_short part) h.0 h.1
-few_text (of_claims, holds numbers) h = numbers_text (codes "holds") numbers holds_word (omega arith) h.1 h.2
-few_text (of_claims, fails numbers) h = numbers_text (codes "fails") numbers fails_word (omega arith) h.1 h.2
-
-few_texts : (ls : List Line) → AllByRecursion IsFewLine ls → AllByRecursion (IsTextLine written_any) ls
-few_texts [] h = tt
-few_texts (l ∷ ls) h = (few_text l h.0, few_texts ls h.1)
-
-not_empty : (ns : List ℕ) → 0 < length ns → ns ≡ [] → ⊥
-not_empty [] h e = omega (arith, h)
-not_empty (n ∷ ns) h e = cc
-
-few_back : (l : Line) → IsFewLine l → Says (written_any l) l
-few_back (of_proofs, said) h = absurd h
-few_back (of_tables, table size) h =
-    let s = numbers_back (codes "table") (size ∷ []) table_word (h, tt) in
-    record { word = decimal size; words = words_spaced (codes "table") table_word (size ∷ []) (h, tt); said = decimal_number size h }
-few_back (of_tables, row entries) h = numbers_back (codes "row") entries row_word h.1
-few_back (of_linear, l) h = linear_back l h
-few_back (of_matrices, Matrices.matrix modulus size) h = record {
-  first = decimal modulus;
-  second = decimal size;
-  words = words_spaced (codes "matrix") matrix_word (modulus ∷ size ∷ []) (h.0, (h.1, tt));
-  modulus_said = decimal_number modulus h.0;
-  size_said = decimal_number size h.1;
-}
-few_back (of_matrices, Matrices.row part entries) h = numbers_back (part_word part) entries (part_is_word part) h.1
-few_back (of_claims, holds numbers) h = record { says = numbers_back (codes "holds") numbers holds_word h.2; some = not_empty numbers h.0 }
-few_back (of_claims, fails numbers) h = record { says = numbers_back (codes "fails") numbers fails_word h.2; some = not_empty numbers h.0 }
-
--- written lines are read, one after another
-reads_one : (p next q : Place) (l : Line) (ls : List Line) → IsFewLine l → after p l ≡ Some next → Reads bodies next (as_given written_any ls) ls q → Reads bodies p (as_given written_any (l ∷ ls)) (l ∷ ls) q
-reads_one p next q l ls h a r = inr (l, next, ls, few_back l h, a, r, refl)
+use Rattle.etp_items.proofs.TextLines.{as_given, lines_back}
+use Rattle.etp_items.proofs.ModelLineBack.{Small, written_any, IsFewLine, few_texts, reads_one}
+use Rattle.etp_items.proofs.RulesReads.{system_few, system_read}
 
 row_stands : (size count : ℕ) (entries : List ℕ) → count < size → length entries ≡ size
     → after (in_head (Lines.rows (record { size = size; count = count }))) (table_line (row entries)) ≡ Some (in_head (Lines.rows (record { size = size; count = count + 1 })))
@@ -273,6 +153,7 @@ abbrev pub head_lines : Model → List Line
 head_lines (Bodies.table size entries) = table_line (table size) ∷ map table_line (map row (cut size entries))
 head_lines (Bodies.linear l) = linear_line l ∷ []
 head_lines (Bodies.matrix g) = map matrix_line (matrix_lines g)
+head_lines (Bodies.rules w rs) = map rules_line (system_lines w rs)
 
 -- and those of a written body
 abbrev pub model_lines : Model → Claims → List Line
@@ -299,16 +180,17 @@ matrix_few g w rest k =
     let a = pieces_few g.size (length g.a) g.a w.shape.at_least few (recursion_from_All Small g.a w.a_small) in
     part_few A (cut g.size g.a) a _ (b_few g w rest k)
 
-model_few : (m : Model) (c : Claims) → IsWritableModel m → AreWritableClaims c → AllByRecursion IsFewLine (model_lines m c)
-model_few (Bodies.table size entries) c w k = (
+model_few : (m : Model) (c : Claims) → IsWritableModel m → IsShortModel m → AreWritableClaims c → AllByRecursion IsFewLine (model_lines m c)
+model_few (Bodies.table size entries) c w s k = (
   omega (arith, w.1),
   rows_few (cut size entries) (pieces_few size (length entries) entries w.0 w.1 (recursion_from_All Small entries w.3)) (map claim_line (claim_lines c)) (claims_few c k),
 )
-model_few (Bodies.linear l) c w k = (w, claims_few c k)
-model_few (Bodies.matrix g) c w k = (
+model_few (Bodies.linear l) c w s k = (w, claims_few c k)
+model_few (Bodies.matrix g) c w s k = (
   (w.modulus, omega (arith, w.shape.at_most)),
   subst (AllByRecursion IsFewLine) (sym (rows_split (cut g.size g.a) (cut g.size g.b) (g.c ∷ []) (map claim_line (claim_lines c)))) (matrix_few g w (map claim_line (claim_lines c)) (claims_few c k)),
 )
+model_few (Bodies.rules v rs) c w s k = system_few v rs w s (map claim_line (claim_lines c)) (claims_few c k)
 
 claims_read_back : (head : Head) (hs fs : List (List ℕ)) → is_told head ≡ true → 0 < length hs → 0 < length fs → AllByRecursion IsFewLine (map claim_line (map holds hs ++ map fails fs))
     → Reads bodies (in_head head) (as_given written_any (map claim_line (map holds hs ++ map fails fs))) (map claim_line (map holds hs ++ map fails fs)) (in_claims failing)
@@ -331,7 +213,7 @@ claims_behind head c told k =
 matrix_read : (g : MatrixMagma) (c : Claims) → IsWritableMatrix g → AreWritableClaims c
     → Reads bodies opening (as_given written_any (model_lines (Bodies.matrix g) c)) (model_lines (Bodies.matrix g) c) (in_claims failing)
 matrix_read g c w k =
-    let few = model_few (Bodies.matrix g) c w k in
+    let few = model_few (Bodies.matrix g) c w tt k in
     let n = g.size in
     let a = cut n g.a in
     let b = cut n g.b in
@@ -359,9 +241,9 @@ matrix_read g c w k =
     (subst (λ (z : List Line). Reads bodies (in_head (Lines.matrix (record { modulus = g.modulus; size = n; count = 0 }))) (as_given written_any z) z (in_claims failing))
     (sym (rows_split a b (g.c ∷ []) rest)) a_read)
 
-pub model_read : (m : Model) (c : Claims) → IsWritableModel m → AreWritableClaims c → Reads bodies opening (as_given written_any (model_lines m c)) (model_lines m c) (in_claims failing)
-model_read (Bodies.table size entries) c w k =
-    let few = model_few (Bodies.table size entries) c w k in
+pub model_read : (m : Model) (c : Claims) → IsWritableModel m → IsShortModel m → AreWritableClaims c → Reads bodies opening (as_given written_any (model_lines m c)) (model_lines m c) (in_claims failing)
+model_read (Bodies.table size entries) c w s k =
+    let few = model_few (Bodies.table size entries) c w s k in
     let rows = cut size entries in
     let exact = rows_exact size size (length entries) entries w.0 w.2 (omega arith) in
     let rest = map claim_line (claim_lines c) in
@@ -369,15 +251,19 @@ model_read (Bodies.table size entries) c w k =
     reads_one opening (in_head (Lines.rows (record { size = size; count = 0 }))) (in_claims failing) (table_line (table size)) (map table_line (map row rows) ++ rest) few.0 (size_stands size w.0 w.1)
     (read_rows size 0 rows rest (in_claims failing) (omega (arith, exact.1)) exact.0 few.1
     (subst (λ n. Reads bodies (in_head (Lines.rows (record { size = size; count = n }))) (as_given written_any rest) rest (in_claims failing)) (let e : size ≡ 0 + length rows = omega (arith, exact.1) in e) claims))
-model_read (Bodies.linear l) c w k =
+model_read (Bodies.linear l) c w s k =
     reads_one opening (in_head (Lines.linear l)) (in_claims failing) (linear_line l) (map claim_line (claim_lines c)) w refl (claims_behind (Lines.linear l) c refl k)
-model_read (Bodies.matrix g) c w k = matrix_read g c w k
+model_read (Bodies.matrix g) c w s k = matrix_read g c w k
+model_read (Bodies.rules v rs) c w s k =
+    system_read v rs (map claim_line (claim_lines c)) (in_claims failing) w (model_few (Bodies.rules v rs) c w s k)
+    (claims_behind (Lines.rules (weighed (length rs))) c (le-leb 1 (length rs) w.some) k)
 
 -- the text of the lines of a magma
 head_text : (m : Model) → model_text m ≡ written_by written_any (head_lines m)
 head_text (Bodies.table size entries) = ap (λ z. written_table_line (table size) ++ 10 ∷ z) (sym (written_map written_any table_line (map row (cut size entries))))
 head_text (Bodies.linear l) = refl
 head_text (Bodies.matrix g) = sym (written_map written_any matrix_line (matrix_lines g))
+head_text (Bodies.rules w rs) = sym (written_map written_any rules_line (system_lines w rs))
 
 -- and what the text has
 text_lines : (m : Model) (c : Claims) → written_body (model m c) ≡ written_by written_any (model_lines m c)
@@ -386,8 +272,8 @@ text_lines m c =
     ∙ ap (λ z. written_by written_any (head_lines m) ++ z) (sym (written_map written_any claim_line (claim_lines c)))
     ∙ sym (written_join written_any (head_lines m) (map claim_line (claim_lines c)))
 
-pub model_given : (m : Model) (c : Claims) → IsWritableModel m → AreWritableClaims c → lines_of (written_body (model m c)) ≡ as_given written_any (model_lines m c)
-model_given m c w k = ap lines_of (text_lines m c) ∙ lines_back written_any (model_lines m c) (few_texts (model_lines m c) (model_few m c w k))
+pub model_given : (m : Model) (c : Claims) → IsWritableModel m → IsShortModel m → AreWritableClaims c → lines_of (written_body (model m c)) ≡ as_given written_any (model_lines m c)
+model_given m c w s k = ap lines_of (text_lines m c) ∙ lines_back written_any (model_lines m c) (few_texts (model_lines m c) (model_few m c w s k))
 
 head_says : (m : Model) → IsWritableModel m → SaysModel (head_lines m) m
 head_says (Bodies.table size entries) w = (table size ∷ map row (cut size entries), refl, record { rows = cut size entries; whole = refl; entries_are = sym (cut_joined size entries w.0) })
@@ -403,6 +289,7 @@ head_says (Bodies.matrix g) w = (
     b_is = sym (cut_joined g.size g.b w.shape.at_least);
   },
 )
+head_says (Bodies.rules v rs) w = refl
 
 pub model_says : (m : Model) (c : Claims) → IsWritableModel m → SaysClaimed (model_lines m c) m c
 model_says m c w = record {
@@ -419,9 +306,9 @@ model_says m c w = record {
   };
 }
 
-pub model_whole_lines : (m : Model) (c : Claims) → IsWritableModel m → AreWritableClaims c → AreWhole bodies (lines_of (written_body (model m c))) (model_lines m c)
-model_whole_lines m c w k = record {
+pub model_whole_lines : (m : Model) (c : Claims) → IsWritableModel m → IsShortModel m → AreWritableClaims c → AreWhole bodies (lines_of (written_body (model m c))) (model_lines m c)
+model_whole_lines m c w s k = record {
   come = in_claims failing;
-  reads = subst (λ (z : List LineText). Reads bodies opening z (model_lines m c) (in_claims failing)) (sym (model_given m c w k)) (model_read m c w k);
+  reads = subst (λ (z : List LineText). Reads bodies opening z (model_lines m c) (in_claims failing)) (sym (model_given m c w s k)) (model_read m c w s k);
   complete = refl;
 }

@@ -1,15 +1,11 @@
 -- Numbers in lines, one more at a time.
-use Rattle.std.proofs.Common.{◌≡◌, ℕ, ◌+◌, ◌<◌, ◌≤◌, suc, add-one, arith, Bool, true, false, not, nat_eq, nat_le, List, [], ◌∷◌, ◌++◌, length, take, drop, get_or, zero, min, map, refl, sym, ap, ◌∙◌, Option, Some, None, append_assoc, append-nil, decimal, codes, OnOk, Result, Ok, Err}
-use Rattle.std.specs.Option.{option_map}
+use Rattle.std.proofs.Common.{◌≡◌, ℕ, ◌+◌, ◌<◌, ◌≤◌, suc, add-one, arith, Bool, true, false, nat_eq, nat_le, List, [], ◌∷◌, ◌++◌, length, take, drop, get_or, zero, min, map, refl, sym, ap, ◌∙◌, append_assoc, append-nil, decimal, codes, OnOk, Result, Ok, Err}
 use Rattle.std.specs.List.{concat}
 use Rattle.std.proofs.Math.Seq.{take-suc}
 use Rattle.std.proofs.lemmas.List.{take-append-drop, length-drop, take_all}
 use Rattle.std.proofs.lemmas.Bool.{leb-true, leb-false}
-use Rattle.etp_io.specs.Texts.{begin_first}
-use Rattle.etp_words.specs.Words.{is_blank, goes_on, words_of}
-use Rattle.etp_words.specs.Numbers.{number_said}
 use Rattle.etp_lines.specs.TableLines.{row}
-use Rattle.etp_lines.specs.Claims.{number_then, numbers_said, holds, fails}
+use Rattle.etp_lines.specs.Claims.{holds, fails}
 use Rattle.etp_items.specs.Bodies as Bodies
 use Rattle.etp_items.specs.Written.{spaced_behind, written_by, written_numbers, written_table_line, written_claim_line, model_text, pieces, cut}
 

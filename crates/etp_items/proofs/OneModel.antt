@@ -7,8 +7,11 @@ use Rattle.etp_matrix.specs.declared.parts.Part.{Part}
 use Rattle.etp_matrix.specs.declared.parts.Part.TheVariants.{A, B, C}
 use Rattle.etp_lines.specs.MatrixLines as Matrices
 use Rattle.etp_lines.specs.MatrixLines.{MatrixLine, rows_of}
+use Rattle.etp_theory.specs.Trees.{Equation}
+use Rattle.etp_lines.specs.RulesLines as Systems
+use Rattle.etp_lines.specs.RulesLines.{RulesLine, rule, system_lines}
 use Rattle.etp_lines.specs.Claims.{ClaimLine, holds, fails, Claims}
-use Rattle.etp_lines.specs.BodyLines.{Line, of_tables, of_linear, of_matrices, of_claims, table_line, matrix_line, claim_line}
+use Rattle.etp_lines.specs.BodyLines.{Line, of_tables, of_linear, of_matrices, of_rules, of_claims, table_line, matrix_line, rules_line, claim_line}
 use Rattle.etp_items.specs.Bodies.{Model}
 use Rattle.etp_items.specs.Bodies as Bodies
 use Rattle.etp_items.specs.Reading.{SaysModel, SaysClaimed}
@@ -33,6 +36,12 @@ part_in p [] = []
 part_in p ((of_matrices, Matrices.row q numbers) ∷ lines) = of_part p q numbers ++ part_in p lines
 part_in p (_ ∷ lines) = part_in p lines
 
+-- the rules among lines
+abbrev pub rules_in : List Line → List Equation
+rules_in [] = []
+rules_in ((of_rules, rule r) ∷ lines) = r ∷ rules_in lines
+rules_in (_ ∷ lines) = rules_in lines
+
 -- the laws that hold, and those that fail, among lines
 abbrev pub holds_in : List Line → List ℕ
 holds_in [] = []
@@ -50,6 +59,8 @@ model_in ((of_tables, table size) ∷ lines) = Some (Bodies.table size (entries_
 model_in ((of_linear, l) ∷ lines) = Some (Bodies.linear l)
 model_in ((of_matrices, Matrices.matrix modulus size) ∷ lines) =
     Some (Bodies.matrix (record { modulus = modulus; size = size; a = part_in A lines; b = part_in B lines; c = part_in C lines }))
+model_in ((of_rules, Systems.rules) ∷ (of_rules, Systems.weight on_left on_right added) ∷ lines) =
+    Some (Bodies.rules (record { on_left = on_left; on_right = on_right; added = added }) (rules_in lines))
 model_in _ = None
 
 rows_entries : (rs : List (List ℕ)) (ls : List Line) → entries_in (map table_line (map row rs) ++ ls) ≡ concat rs ++ entries_in ls
@@ -105,6 +116,12 @@ module _ (a b c : List (List ℕ)) (cs : List ClaimLine) where
       ap (part_in C) (rows_split a b c (map claim_line cs)) ∙ part_skips C A a behind_a (λ n. refl) ∙ part_skips C B b behind_b (λ n. refl) ∙ part_rows C c behind_c
       ∙ ap (λ z. concat c ++ z) (claims_part C cs) ∙ append-nil (concat c)
 
+rules_among : (rs : List Equation) (cs : List ClaimLine) → rules_in (map rules_line (map rule rs) ++ map claim_line cs) ≡ rs
+rules_among [] [] = refl
+rules_among [] (holds n ∷ cs) = rules_among [] cs
+rules_among [] (fails n ∷ cs) = rules_among [] cs
+rules_among (r ∷ rs) cs = ap (λ z. r ∷ z) (rules_among rs cs)
+
 same_matrix : (g : MatrixMagma) (a b c : List ℕ) → a ≡ g.a → b ≡ g.b → c ≡ g.c → Path MatrixMagma (record { modulus = g.modulus; size = g.size; a = a; b = b; c = c }) g
 same_matrix g a b c e f h =
     ap (λ z. record { modulus = g.modulus; size = g.size; a = z; b = b; c = c }) e ∙ ap (λ z. record { modulus = g.modulus; size = g.size; a = g.a; b = z; c = c }) f
@@ -119,6 +136,7 @@ model_told head cs (Bodies.matrix g) (lines, e, s) =
     ap (λ (z : List Line). model_in (z ++ map claim_line cs)) (e ∙ ap (map matrix_line) s.whole)
     ∙ ap (λ (z : MatrixMagma). Some (Bodies.matrix z))
     (same_matrix g _ _ _ (a_told s.a s.b (g.c ∷ []) cs ∙ sym s.a_is) (b_told s.a s.b (g.c ∷ []) cs ∙ sym s.b_is) (c_told s.a s.b (g.c ∷ []) cs ∙ append-nil g.c))
+model_told head cs (Bodies.rules w rs) e = ap (λ (z : List Line). model_in (z ++ map claim_line cs)) e ∙ ap (λ (z : List Equation). Some (Bodies.rules w z)) (rules_among rs cs)
 
 tables_hold : (ts : List TableLine) (ls : List Line) → holds_in (map table_line ts ++ ls) ≡ holds_in ls
 tables_hold [] ls = refl
@@ -136,16 +154,26 @@ matrices_fail : (ms : List MatrixLine) (ls : List Line) → fails_in (map matrix
 matrices_fail [] ls = refl
 matrices_fail (m ∷ ms) ls = matrices_fail ms ls
 
+rules_hold : (ms : List RulesLine) (ls : List Line) → holds_in (map rules_line ms ++ ls) ≡ holds_in ls
+rules_hold [] ls = refl
+rules_hold (m ∷ ms) ls = rules_hold ms ls
+
+rules_fail : (ms : List RulesLine) (ls : List Line) → fails_in (map rules_line ms ++ ls) ≡ fails_in ls
+rules_fail [] ls = refl
+rules_fail (m ∷ ms) ls = rules_fail ms ls
+
 -- the lines of a magma have no claims
 head_holds : (head : List Line) (m : Model) (ls : List Line) → SaysModel head m → holds_in (head ++ ls) ≡ holds_in ls
 head_holds head (Bodies.table size entries) ls (lines, e, s) = ap (λ z. holds_in (z ++ ls)) e ∙ tables_hold lines ls
 head_holds head (Bodies.linear l) ls e = ap (λ z. holds_in (z ++ ls)) e
 head_holds head (Bodies.matrix g) ls (lines, e, s) = ap (λ z. holds_in (z ++ ls)) e ∙ matrices_hold lines ls
+head_holds head (Bodies.rules w rs) ls e = ap (λ z. holds_in (z ++ ls)) e ∙ rules_hold (system_lines w rs) ls
 
 head_fails : (head : List Line) (m : Model) (ls : List Line) → SaysModel head m → fails_in (head ++ ls) ≡ fails_in ls
 head_fails head (Bodies.table size entries) ls (lines, e, s) = ap (λ z. fails_in (z ++ ls)) e ∙ tables_fail lines ls
 head_fails head (Bodies.linear l) ls e = ap (λ z. fails_in (z ++ ls)) e
 head_fails head (Bodies.matrix g) ls (lines, e, s) = ap (λ z. fails_in (z ++ ls)) e ∙ matrices_fail lines ls
+head_fails head (Bodies.rules w rs) ls e = ap (λ z. fails_in (z ++ ls)) e ∙ rules_fail (system_lines w rs) ls
 
 failed_hold : (fs : List (List ℕ)) → holds_in (map claim_line (map fails fs)) ≡ []
 failed_hold [] = refl

@@ -64,6 +64,6 @@ written_body_read_again count lines closed (model m c) h short few =
     record {
       is_closed = refl;
       few = few;
-      is_body = record { saids = model_lines m c; are_whole = model_whole_lines m c w.0 w.1; says = model_says m c w.0 };
+      is_body = record { saids = model_lines m c; are_whole = model_whole_lines m c w.0 short w.1; says = model_says m c w.0 };
       listed = model_listed count m c (listed_numbers count lines closed (model m c) h);
     }

@@ -59,7 +59,7 @@ is_graph b = nat_le 33 b
 abbrev pub is_text : ℕ → Bool
 is_text b = nat_le 32 b
 
-weaker : (p q : ℕ → Bool) → ((b : ℕ) → p b ≡ true → q b ≡ true) → (w : List ℕ) → list_all p w ≡ true → list_all q w ≡ true
+pub weaker : (p q : ℕ → Bool) → ((b : ℕ) → p b ≡ true → q b ≡ true) → (w : List ℕ) → list_all p w ≡ true → list_all q w ≡ true
 weaker p q f [] h = refl
 weaker p q f (b ∷ w) h = let s = both (p b) (list_all p w) h in together (q b) (list_all q w) (f b s.0) (weaker p q f w s.1)
 

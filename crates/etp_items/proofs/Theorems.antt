@@ -7,6 +7,7 @@ use Rattle.etp_items.proofs.WrittenReads.{written_body_reads}
 use Rattle.etp_items.proofs.Writable.{body_writable}
 use Rattle.etp_items.proofs.ReadAgain.{written_body_read_again, listed_numbers}
 use Rattle.etp_items.proofs.ShortLines.{valid_body_short}
+use Rattle.etp_items.proofs.ShortRules.{allowed_rules_short}
 use Rattle.etp_items.specs.Theorems.{BodyTheorems}
 
 pub body_theorems : BodyTheorems
@@ -22,4 +23,5 @@ body_theorems = record {
   written_body_reads = written_body_reads;
   written_body_read_again = written_body_read_again;
   valid_body_short = valid_body_short;
+  allowed_rules_short = allowed_rules_short;
 }

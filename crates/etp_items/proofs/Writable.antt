@@ -11,22 +11,19 @@ use Rattle.etp_io.specs.Texts.{LineText, whole, too_long}
 use Rattle.etp_words.specs.Numbers.{number_said}
 use Rattle.etp_lines.specs.TableLines.{table, row}
 use Rattle.etp_lines.specs.MatrixLines as Matrices
+use Rattle.etp_lines.specs.RulesLines as Systems
 use Rattle.etp_lines.specs.Claims.{holds, fails}
 use Rattle.etp_items.specs.Bodies.{FileBody, proof, model}
 use Rattle.etp_reading.specs.Reading.{Reads}
 use Rattle.etp_lines.specs.ProofLines.{Version, plain, citing, ProofLine, heading, cite, lemma, step, SaysProofLine, reference_of, headed, cite_limit}
-use Rattle.etp_lines.specs.BodyLines.{Line, of_proofs, of_tables, of_linear, of_matrices, of_claims, Place, opening, in_proof, proof_line, Says, after, is_complete, bodies}
+use Rattle.etp_lines.specs.BodyLines.{Line, of_proofs, of_tables, of_linear, of_matrices, of_rules, of_claims, Place, opening, in_proof, proof_line, Says, after, is_complete, bodies}
 use Rattle.etp_items.specs.Reading.{lemma_lines, proof_lines, IsBody}
 use Rattle.etp_items.specs.Written.{IsWritable, IsWritableProofLine, IsWritableBody, version_for}
 use Rattle.etp_items.proofs.NumbersFit.{number_fits}
 use Rattle.etp_items.proofs.LinearLemmas.{linear_writable}
-use Rattle.etp_items.proofs.ModelWritable.{numbers_small, model_writable}
-
-begins_split : (bytes : List ℕ) (ts us : List _) (rest : List ℕ) → Begins bytes (ts ++ us) rest → (middle : List ℕ) × Begins bytes ts middle × Begins middle us rest
-begins_split bytes [] us rest h = (bytes, refl, h)
-begins_split bytes (t ∷ ts) us rest (blanks, start, next, a, e, s, more) =
-    let on = begins_split next ts us rest more in
-    (on.0, (blanks, start, next, a, e, s, on.1), on.2)
+use Rattle.etp_items.proofs.TermTexts.{begins_split}
+use Rattle.etp_items.proofs.ClaimsRead.{numbers_small}
+use Rattle.etp_items.proofs.ModelWritable.{model_writable}
 
 -- the variables of a text have a name
 mutual
@@ -79,6 +76,15 @@ says_writable line (of_tables, row entries) s = numbers_small line _ entries s
 says_writable line (of_linear, l) s = linear_writable line l s
 says_writable line (of_matrices, Matrices.matrix modulus size) s = (number_fits s.first modulus s.modulus_said, number_fits s.second size s.size_said)
 says_writable line (of_matrices, Matrices.row part entries) s = numbers_small line _ entries s
+says_writable line (of_rules, Systems.rules) s = tt
+says_writable line (of_rules, Systems.weight on_left on_right added) s =
+    (number_fits s.first on_left s.left_said, number_fits s.second on_right s.right_said, number_fits s.third added s.added_said)
+says_writable line (of_rules, Systems.rule r) s = record {
+  left_named = term_named s.left r.left s.left_spelled.spelled;
+  right_named = term_named s.right r.right s.right_spelled.spelled;
+  left_few = s.left_spelled.small;
+  right_few = s.right_spelled.small;
+}
 says_writable line (of_claims, holds numbers) s = numbers_small line _ numbers s.says
 says_writable line (of_claims, fails numbers) s = numbers_small line _ numbers s.says
 

@@ -48,7 +48,7 @@ written_body_reads (proof p) writable short = record {
 }
 written_body_reads (model m c) (w, k) short = record {
   saids = model_lines m c;
-  are_whole = model_whole_lines m c w k;
+  are_whole = model_whole_lines m c w short k;
   says = model_says m c w;
 }
 

@@ -9,9 +9,10 @@ use Rattle.etp_lines.specs.ProofLines.{Version, ProofLine, heading, cite, lemma,
 use Rattle.etp_lines.specs.TableLines.{TableLine, SaysRows}
 use Rattle.etp_lines.specs.MatrixLines as Matrices
 use Rattle.etp_lines.specs.MatrixLines.{MatrixLine}
+use Rattle.etp_lines.specs.RulesLines.{system_lines}
 use Rattle.etp_lines.specs.Claims.{ClaimLine, Claims, SaysClaims}
-use Rattle.etp_lines.specs.BodyLines.{Line, proof_line, table_line, linear_line, matrix_line, claim_line, bodies}
-use Rattle.etp_items.specs.Bodies.{ProofBody, Model, table, linear, matrix, FileBody, proof, model}
+use Rattle.etp_lines.specs.BodyLines.{Line, proof_line, table_line, linear_line, matrix_line, rules_line, claim_line, bodies}
+use Rattle.etp_items.specs.Bodies.{ProofBody, Model, table, linear, matrix, rules, FileBody, proof, model}
 
 -- the lines of lemmas: each lemma's start, and its steps
 abbrev pub lemma_lines : List Lemma → List ProofLine
@@ -28,6 +29,7 @@ SaysModel saids (table size entries) =
     (lines : List TableLine) × (saids ≡ map table_line lines) × SaysRows lines size entries
 SaysModel saids (linear l) = saids ≡ linear_line l ∷ []
 SaysModel saids (matrix g) = (lines : List MatrixLine) × (saids ≡ map matrix_line lines) × Matrices.SaysRows lines g
+SaysModel saids (rules w rs) = saids ≡ map rules_line (system_lines w rs)
 
 -- lines that tell a magma, and behind them claims
 pub record SaysClaimed (saids : List Line) (m : Model) (claims : Claims) : Type 0 where

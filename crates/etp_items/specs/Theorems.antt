@@ -3,9 +3,13 @@ use Rattle.std.specs.Prelude.{◌≡◌, ℕ, Bool, true, List, All}
 use Rattle.etp_theory.specs.LawNumbers.{IsLaw}
 use Rattle.etp_theory.specs.Trees.{Equation}
 use Rattle.etp_theory.specs.Proofs.{IsValidProof}
+use Rattle.etp_theory.specs.Weights.{Weight}
+use Rattle.etp_theory.specs.Overlaps.{HasSmallVariables}
+use Rattle.etp_rules.specs.Deciding.{AreAllowed}
 use Rattle.etp_io.specs.Texts.{LineText, lines_of}
-use Rattle.etp_items.specs.Bodies.{FileBody, ProofBody, proof}
+use Rattle.etp_items.specs.Bodies.{FileBody, ProofBody, proof, rules, model}
 use Rattle.etp_words.specs.Words.{IsBlankLine}
+use Rattle.etp_lines.specs.Claims.{Claims}
 use Rattle.etp_lines.specs.BodyLines.{Line, Says}
 use Rattle.etp_items.specs.Reading.{IsBody, IsReadBody, body_numbers, Refuses}
 use Rattle.etp_items.specs.Written.{written_body, IsWritableBody, IsShortBody, HasFewLines}
@@ -37,3 +41,6 @@ pub record BodyTheorems : Type 0 where
   -- each line of a valid proof is written short, since a position that is in a term is shorter than the term
   pub valid_body_short : (hypothesis goal : Equation) (cites : List Equation) (p : ProofBody)
       → IsValidProof hypothesis goal cites p.lemmas → IsWritableBody (proof p) → IsShortBody (proof p)
+  -- and so is each rule of an allowed system, since a side has at most 12 operations
+  pub allowed_rules_short : (w : Weight) (rs : List Equation) (claims : Claims)
+      → AreAllowed w rs → HasSmallVariables rs → IsShortBody (model (rules w rs) claims)

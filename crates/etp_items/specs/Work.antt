@@ -1,5 +1,6 @@
 -- What a reader has read of a body.
 use Rattle.std.specs.Prelude.{◌≡◌, ◌≤◌, ◌<◌, ◌+◌, nat_eq, All, ℕ, Bool, true, false, List, [], ◌∷◌, ◌++◌, length, map, Option, Some, None}
+use Rattle.std.specs.Option.{unwrap_or}
 use Rattle.std.specs.List.{concat}
 use Rattle.etp_io.specs.Texts.{LineText, whole}
 use Rattle.etp_words.specs.Words.{IsBlankLine}
@@ -14,9 +15,13 @@ use Rattle.etp_matrix.specs.declared.parts.Part.{Part}
 use Rattle.etp_matrix.specs.declared.parts.Part.TheVariants.{A, B, C}
 use Rattle.etp_lines.specs.MatrixLines as Matrices
 use Rattle.etp_lines.specs.MatrixLines.{MatrixLine, matrix, rows_of}
+use Rattle.etp_rules.specs.Rules.{rules_of}
+use Rattle.etp_rules.specs.Deciding.{weight_in}
+use Rattle.etp_lines.specs.RulesLines as Systems
+use Rattle.etp_lines.specs.RulesLines.{RulesLine, RulesPlace, system_lines}
 use Rattle.etp_lines.specs.Claims.{ClaimLine, SaysClaims, ClaimPlace, holding, failing, first_claim, after_claim}
 use Rattle.etp_lines.specs.BodyLines as Lines
-use Rattle.etp_lines.specs.BodyLines.{Line, Head, opened_head, next_head, is_told, in_head, in_claims, table_line, linear_line, matrix_line, claim_line, Place, opening, in_proof, proof_line, after_opening, after, is_complete, Says, numbers_of, bodies}
+use Rattle.etp_lines.specs.BodyLines.{Line, Head, opened_head, next_head, is_told, in_head, in_claims, table_line, linear_line, matrix_line, rules_line, claim_line, Place, opening, in_proof, proof_line, after_opening, after, is_complete, Says, numbers_of, bodies}
 use Rattle.etp_items.specs.Bodies as Bodies
 use Rattle.etp_items.specs.Bodies.{FileBody, proof_of, claims_of}
 use Rattle.etp_lines.specs.Said.{version_of, linear_of}
@@ -24,9 +29,11 @@ use Rattle.etp_items.specs.Reading.{proof_lines, SaysBody}
 use Rattle.etp_items.specs.declared.proof.work.ProofWork.{ProofWork}
 use Rattle.etp_items.specs.declared.table.work.TableWork.{TableWork}
 use Rattle.etp_items.specs.declared.matrix.work.MatrixWork.{MatrixWork}
+use Rattle.etp_rules.specs.declared.rule.Rule.{Rule}
+use Rattle.etp_items.specs.declared.rules.work.RulesWork.{RulesWork}
 use Rattle.etp_items.specs.declared.claims.work.ClaimsWork.{ClaimsWork}
 use Rattle.etp_items.specs.declared.magma.MagmaWork.{MagmaWork}
-use Rattle.etp_items.specs.declared.magma.MagmaWork.TheVariants.{Table, Linear, Matrix}
+use Rattle.etp_items.specs.declared.magma.MagmaWork.TheVariants.{Table, Linear, Matrix, Rules}
 use Rattle.etp_items.specs.declared.work.Work.{Work}
 use Rattle.etp_items.specs.declared.work.Work.TheVariants.{Opening, Proof, Model}
 use Rattle.etp_items.specs.declared.reader.Next.{Next}
@@ -144,6 +151,46 @@ TakesInMatrix old said new false = Matrices.after_in_matrix (matrix_place old) s
 abbrev pub matrix_told : MatrixWork → MatrixMagma
 matrix_told w = record { modulus = w.modulus; size = w.size; a = w.a; b = w.b; c = w.c }
 
+-- how far a rule system with this weight and so many rules has come
+abbrev pub rules_place_with : Option (List ℕ) → ℕ → RulesPlace
+rules_place_with None count = Systems.named
+rules_place_with (Some weight) count = Systems.weighed count
+
+abbrev pub rules_place : RulesWork → RulesPlace
+rules_place w = rules_place_with w.weight (length w.rules)
+
+-- what the lines of a system with this weight and these rules said
+abbrev pub rules_said_with : Option (List ℕ) → List Rule → List RulesLine
+rules_said_with None rs = Systems.rules ∷ []
+rules_said_with (Some weight) rs = system_lines (weight_in weight) (rules_of rs)
+
+abbrev pub rules_said : RulesWork → List RulesLine
+rules_said w = rules_said_with w.weight w.rules
+
+-- rules stand behind the weight alone
+abbrev pub HasRules : RulesWork → Type 0
+HasRules w = w.weight ≡ None → w.rules ≡ []
+
+-- the line `rules` opens a system, and no other line
+abbrev pub OpensRules : RulesLine → Option RulesWork → Type 0
+OpensRules said None = opened_head (rules_line said) ≡ None
+OpensRules said (Some w) = (said ≡ Systems.rules) × (w.weight ≡ None) × (w.rules ≡ [])
+
+-- the work goes on with this line of the system
+pub record TakesRulesLine (old new : RulesWork) (said : RulesLine) : Type 0 where
+  pub stands : Systems.after_in_rules (rules_place old) said ≡ Some (rules_place new)
+  pub now : HasRules new
+  pub said_is : rules_said new ≡ rules_said old ++ said ∷ []
+
+-- a line that may stand in a system is taken, and no other
+abbrev pub TakesInRules : RulesWork → RulesLine → RulesWork → Bool → Type 0
+TakesInRules old said new true = HasRules old → TakesRulesLine old new said
+TakesInRules old said new false = Systems.after_in_rules (rules_place old) said ≡ None
+
+-- the weight that was told; without one there are no rules
+abbrev pub weight_told : Option (List ℕ) → List ℕ
+weight_told weight = unwrap_or weight (0 ∷ 0 ∷ 0 ∷ [])
+
 -- how far claims have come
 abbrev pub claim_at : Bool → ClaimPlace
 claim_at true = failing
@@ -176,6 +223,7 @@ HasHead (Table w) head saids = (rows : List (List ℕ)) × HasRows w rows × (he
 HasHead (Linear l) head saids = (head ≡ Lines.linear (linear_of l)) × (saids ≡ linear_line (linear_of l) ∷ [])
 HasHead (Matrix w) head saids = (a : List (List ℕ)) × (b : List (List ℕ)) × (c : List (List ℕ)) × HasMatrixRows w a b c
     × (head ≡ Lines.matrix (matrix_place w)) × (saids ≡ map matrix_line (matrix_said w a b c))
+HasHead (Rules w) head saids = HasRules w × (head ≡ Lines.rules (rules_place w)) × (saids ≡ map rules_line (rules_said w))
 
 -- the first line of a magma opens one, and no other line
 abbrev pub OpensHead : Line → Option MagmaWork → Type 0
@@ -199,12 +247,14 @@ abbrev pub is_told_by : MagmaWork → Bool
 is_told_by (Table w) = has_all_rows w
 is_told_by (Linear l) = true
 is_told_by (Matrix w) = Matrices.has_all (matrix_place w)
+is_told_by (Rules w) = Systems.has_rule (rules_place w)
 
 -- the magma that was told
 abbrev pub told_by : MagmaWork → Bodies.Model
 told_by (Table w) = Bodies.table w.size w.entries
 told_by (Linear l) = Bodies.linear (linear_of l)
 told_by (Matrix w) = Bodies.matrix (matrix_told w)
+told_by (Rules w) = Bodies.rules (weight_in (weight_told w.weight)) (rules_of w.rules)
 
 -- the lines of a magma and its claims have come to this place and said this
 abbrev pub HasModel : MagmaWork → Option ClaimsWork → Place → List Line → Type 0

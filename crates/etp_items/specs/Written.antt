@@ -2,9 +2,10 @@
 use Rattle.std.specs.Prelude.{◌≡◌, ◌*◌, ◌<◌, ◌≤◌, ◌^◌, ℕ, zero, suc, unsigned_abs, length, take, drop, All, Bool, true, false, not, ◌||◌, List, [], ◌∷◌, ◌++◌, map, codes, decimal, if◌then◌else◌}
 use Rattle.std.specs.List.{list_any}
 use Rattle.std.specs.Fmt.{signed_decimal}
-use Rattle.etp_theory.specs.Trees.{bound, leaves}
+use Rattle.etp_theory.specs.Trees.{Equation, bound, leaves}
 use Rattle.etp_theory.specs.Positions.{Side, to_left, to_right}
 use Rattle.etp_theory.specs.Proofs.{ProofStep, Lemma}
+use Rattle.etp_theory.specs.Weights.{Weight}
 use Rattle.etp_io.specs.Texts.{lines_of}
 use Rattle.etp_reading.specs.Reading.{line_limit}
 use Rattle.etp_text.specs.Written.{written_term}
@@ -14,14 +15,16 @@ use Rattle.etp_linear.specs.Magmas.{LinearMagma}
 use Rattle.etp_linear.specs.declared.parts.Ring.{Ring}
 use Rattle.etp_linear.specs.declared.parts.Ring.TheVariants.{Integers, Modulo}
 use Rattle.etp_matrix.specs.Magmas.{MatrixMagma, IsShape}
-use Rattle.etp_items.specs.Bodies.{ProofBody, Model, table, linear, matrix, FileBody, proof, model}
+use Rattle.etp_items.specs.Bodies.{ProofBody, Model, table, linear, matrix, rules, FileBody, proof, model}
 use Rattle.etp_lines.specs.ProofLines.{Version, plain, citing, version_word, ProofLine, heading, cite, lemma, step, cite_limit}
 use Rattle.etp_lines.specs.TableLines as Tables
 use Rattle.etp_lines.specs.TableLines.{TableLine, row}
 use Rattle.etp_lines.specs.MatrixLines as Matrices
 use Rattle.etp_lines.specs.MatrixLines.{MatrixLine, part_word, rows_of}
+use Rattle.etp_lines.specs.RulesLines as Systems
+use Rattle.etp_lines.specs.RulesLines.{RulesLine, rule_limit, system_lines}
 use Rattle.etp_lines.specs.Claims.{ClaimLine, Claims, holds, fails}
-use Rattle.etp_lines.specs.BodyLines.{Line, of_proofs, of_tables, of_linear, of_matrices, of_claims}
+use Rattle.etp_lines.specs.BodyLines.{Line, of_proofs, of_tables, of_linear, of_matrices, of_rules, of_claims}
 use Rattle.etp_items.specs.Reading.{proof_lines}
 
 -- the number of a line, or `c` and that of a cite
@@ -115,6 +118,14 @@ abbrev pub written_matrix_line : MatrixLine → List ℕ
 written_matrix_line (Matrices.matrix modulus size) = written_numbers (codes "matrix") (modulus ∷ size ∷ [])
 written_matrix_line (Matrices.row part entries) = written_numbers (part_word part) entries
 
+-- each line of a rule system by its words
+abbrev pub written_rules_line : RulesLine → List ℕ
+written_rules_line Systems.rules = codes "rules"
+written_rules_line (Systems.weight on_left on_right added) =
+    written_numbers (codes "weight") (on_left ∷ on_right ∷ added ∷ [])
+written_rules_line (Systems.rule r) =
+    spaced (codes "rule" ∷ written_term r.left ∷ codes "->" ∷ written_term r.right ∷ [])
+
 -- and each line of claims
 abbrev pub written_claim_line : ClaimLine → List ℕ
 written_claim_line (holds numbers) = written_numbers (codes "holds") numbers
@@ -140,6 +151,7 @@ abbrev pub model_text : Model → List ℕ
 model_text (table size entries) = written_by written_table_line (Tables.table size ∷ map row (cut size entries))
 model_text (linear l) = written_by written_linear (l ∷ [])
 model_text (matrix g) = written_by written_matrix_line (matrix_lines g)
+model_text (rules w rs) = written_by written_rules_line (system_lines w rs)
 
 -- the lines of claims as they are written
 abbrev pub claim_lines : Claims → List ClaimLine
@@ -169,6 +181,19 @@ pub record IsWritableLinear (l : LinearMagma) : Type 0 where
   pub b_small : unsigned_abs l.b < 2 ^ 32
   pub c_small : unsigned_abs l.c < 2 ^ 32
 
+-- a rule's variables have a name, and a side has at most 255 leaves
+pub record IsWritableRule (r : Equation) : Type 0 where
+  pub left_named : bound r.left ≤ 64
+  pub right_named : bound r.right ≤ 64
+  pub left_few : leaves r.left ≤ side_limit
+  pub right_few : leaves r.right ≤ side_limit
+
+abbrev pub IsWritableRulesLine : RulesLine → Type 0
+IsWritableRulesLine Systems.rules = Unit {0}
+IsWritableRulesLine (Systems.weight on_left on_right added) =
+    (on_left < 2 ^ 32) × (on_right < 2 ^ 32) × (added < 2 ^ 32)
+IsWritableRulesLine (Systems.rule r) = IsWritableRule r
+
 abbrev pub IsWritable : Line → Type 0
 IsWritable (of_proofs, said) = IsWritableProofLine said
 IsWritable (of_tables, Tables.table size) = size < 2 ^ 32
@@ -176,12 +201,16 @@ IsWritable (of_tables, row entries) = AreNumbers entries
 IsWritable (of_linear, l) = IsWritableLinear l
 IsWritable (of_matrices, Matrices.matrix modulus size) = (modulus < 2 ^ 32) × (size < 2 ^ 32)
 IsWritable (of_matrices, Matrices.row part entries) = AreNumbers entries
+IsWritable (of_rules, said) = IsWritableRulesLine said
 IsWritable (of_claims, holds numbers) = AreNumbers numbers
 IsWritable (of_claims, fails numbers) = AreNumbers numbers
 
 -- the line is written in at most 4096 bytes
 abbrev pub IsShortProofLine : ProofLine → Type 0
 IsShortProofLine line = length (written_proof_line line) ≤ 4096
+
+abbrev pub IsShortRule : Equation → Type 0
+IsShortRule r = length (written_rules_line (Systems.rule r)) ≤ 4096
 
 -- numbers below 2^32, and as many in A, B and c as the size wants
 pub record IsWritableMatrix (g : MatrixMagma) : Type 0 where
@@ -191,12 +220,22 @@ pub record IsWritableMatrix (g : MatrixMagma) : Type 0 where
   pub b_small : AreNumbers g.b
   pub c_small : AreNumbers g.c
 
+-- a weight of numbers below 2^32, and 1 to 64 rules
+pub record IsWritableSystem (w : Weight) (rs : List Equation) : Type 0 where
+  pub left_small : w.on_left < 2 ^ 32
+  pub right_small : w.on_right < 2 ^ 32
+  pub added_small : w.added < 2 ^ 32
+  pub some : 1 ≤ length rs
+  pub few : length rs ≤ rule_limit
+  pub each : All IsWritableRule rs
+
 -- a table has a size from 1 to 255 and size times size entries
 abbrev pub IsWritableModel : Model → Type 0
 IsWritableModel (table size entries) =
     (1 ≤ size) × (size ≤ 255) × (length entries ≡ size * size) × AreNumbers entries
 IsWritableModel (linear l) = IsWritableLinear l
 IsWritableModel (matrix g) = IsWritableMatrix g
+IsWritableModel (rules w rs) = IsWritableSystem w rs
 
 -- the condition of the written form: a size, of a table or of matrices, is at least 1
 abbrev pub HasSize : FileBody → Type 0
@@ -204,6 +243,7 @@ HasSize (proof p) = Unit {0}
 HasSize (model (table size entries) claims) = 1 ≤ size
 HasSize (model (linear l) claims) = Unit {0}
 HasSize (model (matrix g) claims) = 1 ≤ g.size
+HasSize (model (rules w rs) claims) = Unit {0}
 
 -- there are laws that are to hold and laws that are to fail
 pub record AreWritableClaims (claims : Claims) : Type 0 where
@@ -219,10 +259,17 @@ IsWritableBody (proof p) =
     × All IsWritableProofLine (proof_lines (version_for p) p)
 IsWritableBody (model m claims) = IsWritableModel m × AreWritableClaims claims
 
+-- each line is short that tells the magma; the lines of rules alone may be longer
+abbrev pub IsShortModel : Model → Type 0
+IsShortModel (table size entries) = Unit {0}
+IsShortModel (linear l) = Unit {0}
+IsShortModel (matrix g) = Unit {0}
+IsShortModel (rules w rs) = All IsShortRule rs
+
 -- each of its lines is short
 abbrev pub IsShortBody : FileBody → Type 0
 IsShortBody (proof p) = All IsShortProofLine (proof_lines (version_for p) p)
-IsShortBody (model m claims) = Unit {0}
+IsShortBody (model m claims) = IsShortModel m
 
 -- The written form has no more lines than a body may have. A proof has no more than were read; claims
 -- may have stood in fewer, longer lines.

@@ -1,6 +1,7 @@
 use etp_bits::Numbers;
 use etp_linear::Ring;
 use etp_proof::Proof;
+use etp_rules::RuleList;
 
 /// What the lines of a file say.
 #[derive(Drop)]
@@ -13,6 +14,8 @@ pub enum Body {
     Linear(LinearBody),
     /// A matrix-linear magma that is to be a model of laws.
     Matrix(MatrixBody),
+    /// A rule system whose normal forms are to be a model of laws.
+    Rules(RulesBody),
 }
 
 /// An operation table, its entries row by row, and what it is to show.
@@ -42,6 +45,16 @@ pub struct MatrixBody {
     pub a: Numbers,
     pub b: Numbers,
     pub c: Numbers,
+    pub claims: Claims,
+}
+
+/// A rule system, the weight that its rules are to lower, and what it is to show. The weight is in no
+/// range yet.
+#[derive(Drop)]
+pub struct RulesBody {
+    /// How often the left part counts, how often the right part counts, and how much is added.
+    pub weight: [u32; 3],
+    pub rules: RuleList,
     pub claims: Claims,
 }
 

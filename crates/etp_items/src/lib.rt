@@ -12,11 +12,12 @@ mod model;
 mod numbers;
 mod proof;
 mod reader;
+mod rules;
 mod table;
 mod work;
 mod writing;
 
-pub use body::{Body, Claims, LinearBody, MatrixBody, TableBody};
+pub use body::{Body, Claims, LinearBody, MatrixBody, RulesBody, TableBody};
 pub use etp_lines::{lemma_line, step_line};
 pub use etp_reading::BodyRefusal;
 pub use etp_words::number_word;

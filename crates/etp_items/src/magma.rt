@@ -5,8 +5,9 @@ ghost use Rattle.etp_lines.specs.Said.{line_of};
 ghost use Rattle.etp_items.specs.Work as Works;
 ghost use Rattle.etp_items.specs.Work.{OpensHead, TakesInHead, told_by};
 
-use crate::body::{Body, Claims, LinearBody, MatrixBody, TableBody};
+use crate::body::{Body, Claims, LinearBody, MatrixBody, RulesBody, TableBody};
 use crate::matrix::work::MatrixWork;
+use crate::rules::work::RulesWork;
 use crate::table::work::TableWork;
 use etp_lines::{Line, LinearLine};
 use etp_term::NoMemory;
@@ -19,6 +20,7 @@ pub(crate) enum MagmaWork {
     /// One line tells a linear magma.
     Linear(LinearLine),
     Matrix(MatrixWork),
+    Rules(RulesWork),
 }
 
 impl MagmaWork {
@@ -36,6 +38,10 @@ impl MagmaWork {
                 let work = MatrixWork::open(alloc, said)?;
                 Some(MagmaWork::Matrix(work))
             }
+            Line::Rules(said) => {
+                let work = RulesWork::open(alloc, said)?;
+                Some(MagmaWork::Rules(work))
+            }
             Line::Proof(_) | Line::Claim(_) => None,
         }
     }
@@ -48,12 +54,28 @@ impl MagmaWork {
         match self {
             MagmaWork::Table(work) => match said {
                 Line::Table(said) => work.take(said),
-                Line::Proof(_) | Line::Linear(_) | Line::Matrix(_) | Line::Claim(_) => Ok(false),
+                Line::Proof(_)
+                | Line::Linear(_)
+                | Line::Matrix(_)
+                | Line::Rules(_)
+                | Line::Claim(_) => Ok(false),
             },
             MagmaWork::Linear(_) => Ok(false),
             MagmaWork::Matrix(work) => match said {
                 Line::Matrix(said) => work.take(said),
-                Line::Proof(_) | Line::Table(_) | Line::Linear(_) | Line::Claim(_) => Ok(false),
+                Line::Proof(_)
+                | Line::Table(_)
+                | Line::Linear(_)
+                | Line::Rules(_)
+                | Line::Claim(_) => Ok(false),
+            },
+            MagmaWork::Rules(work) => match said {
+                Line::Rules(said) => work.take(said),
+                Line::Proof(_)
+                | Line::Table(_)
+                | Line::Linear(_)
+                | Line::Matrix(_)
+                | Line::Claim(_) => Ok(false),
             },
         }
     }
@@ -66,6 +88,7 @@ impl MagmaWork {
             MagmaWork::Table(work) => work.has_all_rows(),
             MagmaWork::Linear(_) => true,
             MagmaWork::Matrix(work) => work.has_all_rows(),
+            MagmaWork::Rules(work) => work.has_rule(),
         }
     }
 
@@ -92,6 +115,11 @@ impl MagmaWork {
                 a: work.a,
                 b: work.b,
                 c: work.c,
+                claims,
+            }),
+            MagmaWork::Rules(work) => Body::Rules(RulesBody {
+                weight: work.weight.unwrap_or([0; 3]),
+                rules: work.rules,
                 claims,
             }),
         }

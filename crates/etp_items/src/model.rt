@@ -28,12 +28,13 @@ impl ModelWork {
         ensures err { OnErr result (self.new ≡ self.old) }
     {
         match said {
-            Line::Proof(_) | Line::Table(_) | Line::Linear(_) | Line::Matrix(_) => {
-                if self.claims.is_some() {
-                    return Ok(false);
+            Line::Proof(_) | Line::Table(_) | Line::Linear(_) | Line::Matrix(_) | Line::Rules(_) =>
+                {
+                    if self.claims.is_some() {
+                        return Ok(false);
+                    }
+                    self.magma.take(said)
                 }
-                self.magma.take(said)
-            }
             Line::Claim(said) => match &mut self.claims {
                 Some(claims) => claims.take(said),
                 None => Ok(self.open_claims(alloc, said)),

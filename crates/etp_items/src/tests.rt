@@ -1,4 +1,6 @@
 // Bodies by their lines, and what is written of them.
+mod rules;
+
 ghost use Rattle.std.specs.Prelude.{IsTrue};
 ghost use Rattle.etp_items.specs.Bodies.{body_of};
 ghost use Rattle.etp_items.specs.Written.{HasSize};
@@ -156,6 +158,7 @@ fn has_size(body: &Body) -> bool
         Body::Table(table) => table.size >= 1,
         Body::Linear(_) => true,
         Body::Matrix(matrix) => matrix.size >= 1,
+        Body::Rules(_) => true,
     }
 }
 

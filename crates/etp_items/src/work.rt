@@ -33,7 +33,11 @@ impl Work {
             Work::Opening => Ok(self.open(alloc, said)),
             Work::Proof(work) => match said {
                 Line::Proof(said) => work.take(alloc, said),
-                Line::Table(_) | Line::Linear(_) | Line::Matrix(_) | Line::Claim(_) => Ok(false),
+                Line::Table(_)
+                | Line::Linear(_)
+                | Line::Matrix(_)
+                | Line::Rules(_)
+                | Line::Claim(_) => Ok(false),
             },
             Work::Model(work) => work.take(alloc, said),
         }
@@ -46,7 +50,9 @@ impl Work {
     {
         match said {
             Line::Proof(said) => self.open_proof(alloc, said),
-            Line::Table(_) | Line::Linear(_) | Line::Matrix(_) => self.open_magma(alloc, said),
+            Line::Table(_) | Line::Linear(_) | Line::Matrix(_) | Line::Rules(_) => {
+                self.open_magma(alloc, said)
+            }
             Line::Claim(_) => false,
         }
     }

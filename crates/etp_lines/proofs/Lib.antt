@@ -5,4 +5,6 @@ pub mod OneClaimLine
 pub mod OneTableLine
 pub mod OneLinearLine
 pub mod OneMatrixLine
+pub mod DividedLemmas
+pub mod OneRulesLine
 pub mod OneLine

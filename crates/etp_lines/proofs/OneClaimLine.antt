@@ -1,5 +1,5 @@
 -- A line of claims says one thing, and its first word tells its kind.
-use Rattle.std.proofs.Common.{◌≡◌, ℕ, List, [], ◌∷◌, refl, sym, ap, ◌∙◌, arith, length, get_or, Option, Some, codes}
+use Rattle.std.proofs.Common.{◌≡◌, ℕ, List, ◌∷◌, refl, sym, ap, ◌∙◌, arith, get_or, Some, codes}
 use Rattle.etp_words.specs.Words.{words_of}
 use Rattle.etp_lines.specs.Claims.{numbers_said, SaysNumbers, ClaimLine, holds, fails, SaysClaimLine}
 use Rattle.etp_lines.specs.BodyLines.{kind_named, of_claims}

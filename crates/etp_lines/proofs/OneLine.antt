@@ -2,11 +2,12 @@
 use Rattle.std.proofs.Common.{◌≡◌, ℕ, true, false, List, [], ◌∷◌, sym, ap, subst, ◌∙◌, Some, None, eqb-true}
 use Rattle.etp_words.specs.Words.{words_of, is_comment, are_blank, IsBlankLine}
 use Rattle.etp_reading.specs.Grammars.{OneLine}
-use Rattle.etp_lines.specs.BodyLines.{Kind, of_proofs, of_tables, of_linear, of_matrices, of_claims, kind_named, LineOf, Line, Says, bodies}
+use Rattle.etp_lines.specs.BodyLines.{Kind, of_proofs, of_tables, of_linear, of_matrices, of_rules, of_claims, kind_named, LineOf, Line, Says, bodies}
 use Rattle.etp_lines.proofs.OneProofLine as Proofs
 use Rattle.etp_lines.proofs.OneTableLine as Tables
 use Rattle.etp_lines.proofs.OneLinearLine as Linears
 use Rattle.etp_lines.proofs.OneMatrixLine as Matrices
+use Rattle.etp_lines.proofs.OneRulesLine as Rules
 use Rattle.etp_lines.proofs.OneClaimLine as Claims
 
 some_none : (k : Kind) → Some k ≡ None → ⊥
@@ -35,6 +36,9 @@ first_word line (of_linear, l) s =
 first_word line (of_matrices, l) s =
     let begins = Matrices.begins line l s in
     record { word = Matrices.first_word l; more = begins.0; words = begins.1; named = Matrices.first_word_kind l }
+first_word line (of_rules, l) s =
+    let begins = Rules.begins line l s in
+    record { word = Rules.first_word l; more = begins.0; words = begins.1; named = Rules.first_word_kind l }
 first_word line (of_claims, l) s =
     let begins = Claims.begins line l s in
     record { word = Claims.first_word l; more = begins.0; words = begins.1; named = Claims.first_word_kind l }
@@ -72,6 +76,7 @@ one_of_kind line of_proofs l m s t = ap (λ z. (of_proofs, z)) (Proofs.one_proof
 one_of_kind line of_tables l m s t = ap (λ z. (of_tables, z)) (Tables.one_table_line line l m s t)
 one_of_kind line of_linear l m s t = ap (λ z. (of_linear, z)) (Linears.one_linear_line line l m s t)
 one_of_kind line of_matrices l m s t = ap (λ z. (of_matrices, z)) (Matrices.one_matrix_line line l m s t)
+one_of_kind line of_rules l m s t = ap (λ z. (of_rules, z)) (Rules.one_rules_line line l m s t)
 one_of_kind line of_claims l m s t = ap (λ z. (of_claims, z)) (Claims.one_claim_line line l m s t)
 
 of_same_kind : (line : List ℕ) (j k : Kind) → j ≡ k → (l : LineOf j) (m : LineOf k) → Says line (j, l) → Says line (k, m) → Path Line (j, l) (k, m)

@@ -16,7 +16,7 @@ some_same a b e = cc
 two_named : {A : Type 0} (f : List ℕ → Option A) (u v : List ℕ) (a b : A) → u ≡ v → f u ≡ Some a → f v ≡ Some b → a ≡ b
 two_named f u v a b e p q = some_same a b (sym p ∙ ap f e ∙ q)
 
-one_side : (text : List ℕ) (s t : Tree) → SpellsSide text s → SpellsSide text t → s ≡ t
+pub one_side : (text : List ℕ) (s t : Tree) → SpellsSide text s → SpellsSide text t → s ≡ t
 one_side text s t p q = same_term text s t p.spelled q.spelled
 
 same_step : (s t : Tree) (m n : ℕ) (c d : Bool) (r q : Bool) (p o : List Side) → s ≡ t → m ≡ n → c ≡ d → r ≡ q → p ≡ o

@@ -1,5 +1,5 @@
 -- A line of a table says one thing, and its first word tells its kind.
-use Rattle.std.proofs.Common.{◌≡◌, ℕ, List, [], ◌∷◌, refl, sym, ap, ◌∙◌, arith, get_or, Option, Some, codes}
+use Rattle.std.proofs.Common.{◌≡◌, ℕ, List, [], ◌∷◌, refl, sym, ap, ◌∙◌, arith, get_or, Some, codes}
 use Rattle.etp_words.specs.Words.{words_of}
 use Rattle.etp_words.specs.Numbers.{number_said}
 use Rattle.etp_lines.specs.TableLines.{TableLine, table, row, SaysTable, SaysTableLine}

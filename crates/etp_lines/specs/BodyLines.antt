@@ -9,6 +9,7 @@ use Rattle.etp_lines.specs.TableLines.{TableLine, table, SaysTableLine, Rows, op
 use Rattle.etp_lines.specs.LinearLines.{SaysLinear}
 use Rattle.etp_lines.specs.MatrixLines as Matrices
 use Rattle.etp_lines.specs.MatrixLines.{MatrixLine, SaysMatrixLine, opened_matrix, after_in_matrix}
+use Rattle.etp_lines.specs.RulesLines.{RulesLine, SaysRulesLine, RulesPlace, opened_rules, after_in_rules, has_rule}
 use Rattle.etp_lines.specs.Claims.{ClaimLine, SaysClaimLine, numbers_of_claim, ClaimPlace, first_claim, after_claim, are_complete_claims}
 
 -- the kinds of lines
@@ -17,6 +18,7 @@ pub data Kind : Type 0 where
   of_tables : Kind
   of_linear : Kind
   of_matrices : Kind
+  of_rules : Kind
   of_claims : Kind
 
 -- the kind of a line with this first word
@@ -30,7 +32,9 @@ kind_named word =
     else (if is_word word (codes "matrix") || is_word word (codes "a") || is_word word (codes "b")
     || is_word word (codes "c")
     then Some of_matrices
-    else (if is_word word (codes "holds") || is_word word (codes "fails") then Some of_claims else None))))
+    else (if is_word word (codes "rules") || is_word word (codes "weight") || is_word word (codes "rule")
+    then Some of_rules
+    else (if is_word word (codes "holds") || is_word word (codes "fails") then Some of_claims else None)))))
 
 -- what a line of a kind may say
 abbrev pub LineOf : Kind → Type 0
@@ -38,6 +42,7 @@ LineOf of_proofs = ProofLine
 LineOf of_tables = TableLine
 LineOf of_linear = LinearMagma
 LineOf of_matrices = MatrixLine
+LineOf of_rules = RulesLine
 LineOf of_claims = ClaimLine
 
 -- what a line may say
@@ -56,6 +61,9 @@ linear_line said = (of_linear, said)
 abbrev pub matrix_line : MatrixLine → Line
 matrix_line said = (of_matrices, said)
 
+abbrev pub rules_line : RulesLine → Line
+rules_line said = (of_rules, said)
+
 abbrev pub claim_line : ClaimLine → Line
 claim_line said = (of_claims, said)
 
@@ -65,6 +73,7 @@ Says line (of_proofs, said) = SaysProofLine line said
 Says line (of_tables, said) = SaysTableLine line said
 Says line (of_linear, said) = SaysLinear line said
 Says line (of_matrices, said) = SaysMatrixLine line said
+Says line (of_rules, said) = SaysRulesLine line said
 Says line (of_claims, said) = SaysClaimLine line said
 
 -- the law numbers of a line, from left to right
@@ -73,6 +82,7 @@ numbers_of (of_proofs, said) = numbers_of_proof_line said
 numbers_of (of_tables, said) = []
 numbers_of (of_linear, said) = []
 numbers_of (of_matrices, said) = []
+numbers_of (of_rules, said) = []
 numbers_of (of_claims, said) = numbers_of_claim said
 
 -- how far the lines before the claims have come, which tell a magma
@@ -80,12 +90,14 @@ pub data Head : Type 0 where
   rows : Rows → Head
   linear : LinearMagma → Head
   matrix : Matrices.Rows → Head
+  rules : RulesPlace → Head
 
 -- the magma is told
 abbrev pub is_told : Head → Bool
 is_told (rows r) = nat_eq r.count r.size
 is_told (linear l) = true
 is_told (matrix r) = Matrices.has_all r
+is_told (rules p) = has_rule p
 
 -- how far a body has come
 pub data Place : Type 0 where
@@ -100,12 +112,14 @@ abbrev pub opened_head : Line → Option Head
 opened_head (of_tables, table size) = option_map rows (opened_rows size)
 opened_head (of_linear, l) = Some (linear l)
 opened_head (of_matrices, Matrices.matrix modulus size) = option_map matrix (opened_matrix modulus size)
+opened_head (of_rules, said) = option_map rules (opened_rules said)
 opened_head _ = None
 
 -- and with one more of them
 abbrev pub next_head : Head → Line → Option Head
 next_head (rows r) (of_tables, said) = option_map rows (after_in_table r said)
 next_head (matrix r) (of_matrices, said) = option_map matrix (after_in_matrix r said)
+next_head (rules p) (of_rules, said) = option_map rules (after_in_rules p said)
 next_head _ _ = None
 
 -- a line that is none of a proof

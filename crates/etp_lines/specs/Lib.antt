@@ -3,6 +3,7 @@ pub mod Claims
 pub mod TableLines
 pub mod LinearLines
 pub mod MatrixLines
+pub mod RulesLines
 pub mod ProofLines
 pub mod BodyLines
 pub mod Said

@@ -7,6 +7,7 @@ mod linear;
 mod matrix;
 mod numbers;
 mod proof;
+mod rules;
 mod sides;
 mod table;
 
@@ -15,6 +16,7 @@ pub use line::{Line, is_blank_line, read_line};
 pub use linear::LinearLine;
 pub use matrix::MatrixLine;
 pub use proof::{Heading, ProofLine, Version, lemma_line, step_line};
+pub use rules::RulesLine;
 pub use table::TableLine;
 
 #[cfg(test)]

@@ -11,6 +11,7 @@ use crate::claims::{ClaimLine, read_claim_line};
 use crate::linear::{LinearLine, read_linear_line};
 use crate::matrix::{MatrixLine, read_matrix_line};
 use crate::proof::{ProofLine, read_proof_line};
+use crate::rules::{RulesLine, read_rules_line};
 use crate::table::{TableLine, read_table_line};
 use etp_reading::Tally;
 use etp_term::NoMemory;
@@ -24,6 +25,7 @@ pub enum Line {
     Table(TableLine),
     Linear(LinearLine),
     Matrix(MatrixLine),
+    Rules(RulesLine),
     Claim(ClaimLine),
 }
 
@@ -34,7 +36,7 @@ impl Line {
     {
         match self {
             Line::Proof(said) => said.first_unlisted(tally),
-            Line::Table(_) | Line::Linear(_) | Line::Matrix(_) => None,
+            Line::Table(_) | Line::Linear(_) | Line::Matrix(_) | Line::Rules(_) => None,
             Line::Claim(said) => said.first_unlisted(tally),
         }
     }
@@ -47,6 +49,7 @@ enum Kind {
     OfTables,
     OfLinear,
     OfMatrices,
+    OfRules,
     OfClaims,
 }
 
@@ -70,6 +73,9 @@ fn kind_named(word: &[u8]) -> Option<Kind>
     }
     if is(word, "matrix") || is(word, "a") || is(word, "b") || is(word, "c") {
         return Some(Kind::OfMatrices);
+    }
+    if is(word, "rules") || is(word, "weight") || is(word, "rule") {
+        return Some(Kind::OfRules);
     }
     if is(word, "holds") || is(word, "fails") {
         return Some(Kind::OfClaims);
@@ -111,6 +117,10 @@ pub fn read_line(alloc: Global, line: &[u8]) -> Result<Option<Line>, NoMemory>
         },
         Some(Kind::OfMatrices) => match read_matrix_line(alloc, line)? {
             Some(said) => Ok(Some(Line::Matrix(said))),
+            None => Ok(None),
+        },
+        Some(Kind::OfRules) => match read_rules_line(alloc, line)? {
+            Some(said) => Ok(Some(Line::Rules(said))),
             None => Ok(None),
         },
         Some(Kind::OfClaims) => match read_claim_line(alloc, line)? {

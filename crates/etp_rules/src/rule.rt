@@ -1,5 +1,5 @@
 // Rules and lists of them.
-ghost use Rattle.std.specs.Prelude.{◌≡◌, ◌<◌, ◌≤◌, ◌↔◌, ◌++◌, ◌∷◌, [], IsTrue, OnOk, OnErr, length, slice_get};
+ghost use Rattle.std.specs.Prelude.{◌≡◌, ◌<◌, ◌≤◌, ◌↔◌, ◌++◌, ◌∷◌, [], IsTrue, IfOk, OnOk, OnErr, length, slice_get};
 ghost use Rattle.std.specs.Option.{option_copied};
 ghost use Rattle.etp_theory.specs.Trees.{bound};
 ghost use Rattle.etp_theory.specs.Overlaps.{HasSmallVariables};
@@ -15,6 +15,17 @@ use std::marker::Model;
 pub struct Rule {
     pub left: Term,
     pub right: Term,
+}
+
+impl Rule {
+    /// An equal rule.
+    fn copy(&self, alloc: Global) -> Result<Rule, NoMemory>
+        ensures { IfOk result (λ r. r ≡ self.now) }
+    {
+        let left = self.left.copy(alloc)?;
+        let right = self.right.copy(alloc)?;
+        Ok(Rule { left, right })
+    }
 }
 
 /// A list of rules.
@@ -70,6 +81,19 @@ impl RuleList {
     {
         self.rules.push(rule)?;
         Ok(())
+    }
+
+    /// An equal list.
+    pub fn copy(&self, alloc: Global) -> Result<RuleList, NoMemory>
+        ensures { IfOk result (λ rules. rules ≡ self.now) }
+    {
+        let mut copy = RuleList::empty(alloc);
+        for at in 0..self.len() {
+            if let Some(rule) = self.get(at) {
+                copy.push(rule.copy(alloc)?)?;
+            }
+        }
+        Ok(copy)
     }
 
     /// Whether every variable of the rules is below 64.

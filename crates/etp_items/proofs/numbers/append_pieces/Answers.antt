@@ -1,5 +1,5 @@
-use Rattle.std.proofs.Common.{◌≡◌, ◌<◌, ◌∷◌, [], length, take, drop, ◌++◌, ◌∙◌, ap, arith, append_assoc}
-use Rattle.etp_items.specs.Written.{written_by, written_numbers, cut}
+use Rattle.std.proofs.Common.{◌∷◌, [], take, drop, ◌∙◌, ap, append_assoc}
+use Rattle.etp_items.specs.Written.{written_numbers}
 use Rattle.etp_items.proofs.NumberLemmas.{one_piece, take_min, drop_min, some_left}
 use Rattle.etp_items.proofs.numbers.append_pieces.Goals as goal
 

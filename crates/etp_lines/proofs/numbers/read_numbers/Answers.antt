@@ -1,5 +1,4 @@
-use Rattle.std.proofs.Common.{◌≡◌, ◌≤◌, ◌+◌, suc, length, arith, ap}
-use Rattle.etp_words.specs.Words.{words_of}
+use Rattle.std.proofs.Common.{arith}
 use Rattle.etp_lines.proofs.NumberLemmas.{words_few}
 use Rattle.etp_lines.proofs.numbers.read_numbers.Goals as goal
 

@@ -1,6 +1,5 @@
-use Rattle.std.proofs.Common.{◌≡◌, ◌++◌, ◌∙◌, codes, map, ap, sym, append_assoc, rules, OnOk}
-use Rattle.etp_lines.specs.Claims.{holds, fails}
-use Rattle.etp_items.specs.Written.{written_by, written_numbers, written_claim_line, cut}
+use Rattle.std.proofs.Common.{◌++◌, ◌∙◌, codes, ap}
+use Rattle.etp_items.specs.Written.{written_by, written_numbers, cut}
 use Rattle.etp_items.proofs.NumberLemmas.{claims_written}
 use Rattle.etp_items.proofs.claims.writing.append_claims.Goals as goal
 

@@ -1,7 +1,7 @@
 use Rattle.std.proofs.Common.{◌≡◌, sym, ◌∙◌, true}
 use Rattle.etp_lines.specs.Said.{claim_line_of}
 use Rattle.etp_items.specs.Work.{is_told_by}
-use Rattle.etp_items.proofs.ModelLemmas.{claims_open, claims_shut}
+use Rattle.etp_items.proofs.ModelLemmas.{claims_open}
 use Rattle.etp_items.proofs.model.ModelWork.open_claims.Goals as goal
 
 pub returns : goal.returns

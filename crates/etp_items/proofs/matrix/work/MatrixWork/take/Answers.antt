@@ -1,4 +1,4 @@
-use Rattle.std.proofs.Common.{◌≡◌, ◌<◌, ◌≤◌, ◌+◌, ◌^◌, length, true, ap, sym, ◌∙◌, subst, arith, rules, Fits, w16}
+use Rattle.std.proofs.Common.{◌≡◌, ◌<◌, ◌+◌, length, true, ap, sym, ◌∙◌, subst, arith, rules}
 use Rattle.etp_lines.specs.Said.{matrix_line_of}
 use Rattle.etp_lines.specs.MatrixLines.{row, awaits}
 use Rattle.etp_items.specs.Work.{TakesInMatrix, with_entries}
