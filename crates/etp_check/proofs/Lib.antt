@@ -1,3 +1,4 @@
 pub mod Rights
+pub mod Systems
 pub mod Verdicts
 pub mod WrittenBack

@@ -17,7 +17,8 @@ use Rattle.etp_replay.proofs.Goals.{listed_law}
 use Rattle.etp_table.proofs.Tables as Tables
 use Rattle.etp_linear.proofs.Judged as Linears
 use Rattle.etp_matrix.proofs.Judged as Matrices
-use Rattle.etp_items.specs.Bodies.{FileBody, table, linear, matrix, proof, model}
+use Rattle.etp_canonical.proofs.Found as Systems
+use Rattle.etp_items.specs.Bodies.{FileBody, table, linear, matrix, rules, proof, model}
 use Rattle.etp_check.specs.Checks.{fact_said, IsListedBody, HasContent, AreCitedNumbers, IsRightBody, IsValidBody, SaysRight, HasLaws}
 
 same_some : (p q : Equation) → Some p ≡ Some q → p ≡ q
@@ -57,6 +58,8 @@ right_fact laws (model (table size entries) claims) cited valid implied =
     Tables.right_fact laws (record { size = size; entries = entries }) claims.holds claims.fails valid.right.0 valid.right.1
 right_fact laws (model (linear l) claims) cited valid implied = Linears.right_fact laws l valid.right.0 claims.holds claims.fails valid.right.1
 right_fact laws (model (matrix g) claims) cited valid implied = Matrices.right_fact laws g valid.right.0 claims.holds claims.fails valid.right.1
+right_fact laws (model (rules w rs) claims) cited valid implied =
+    Systems.right_fact laws rs w claims.holds claims.fails valid.right.1 valid.right.0.convergent
 
 pub says_right : {T E : Type 0} (r : Result T E) (laws : List Equation) (body : FileBody) (cited : List ℕ) → IsListedBody laws body → HasContent body → AreCitedNumbers laws body cited → OnOk r (IsRightBody laws body cited) → OnOk r (SaysRight laws body cited)
 says_right r laws body cited listed content numbers right =

@@ -16,15 +16,21 @@ use Rattle.etp_matrix.specs.Magmas.{MatrixMagma}
 use Rattle.etp_matrix.specs.declared.refusal.MatrixRefusal.{MatrixRefusal}
 use Rattle.etp_matrix.proofs.Meaning as Matrices
 use Rattle.etp_matrix.proofs.Offences as MatrixOffences
+use Rattle.etp_theory.specs.Weights.{Weight, AllDecrease}
+use Rattle.etp_rules.specs.Deciding.{IsInRange, AreAllowed}
+use Rattle.etp_rules.proofs.Refusals as Systems
+use Rattle.etp_pairs.proofs.Unique as Overlapping
+use Rattle.etp_canonical.proofs.Offences as Canonical
 use Rattle.etp_lines.specs.Claims.{Claims}
-use Rattle.etp_items.specs.Bodies.{FileBody, Model, table, linear, matrix, proof, model}
+use Rattle.etp_items.specs.Bodies.{FileBody, Model, table, linear, matrix, rules, proof, model}
 use Rattle.etp_replay.specs.Validity.{law_at}
 use Rattle.etp_replay.proofs.OneVerdict.{one_refusal, valid_or_refused}
 use Rattle.etp_check.specs.Checks.{IsRightBody, IsRightModel}
-use Rattle.etp_check.specs.Refusals.{IsTableOffence, IsLinearOffence, IsMatrixOffence, IsModelOffence, IsBodyOffence}
+use Rattle.etp_check.specs.Refusals.{IsTableOffence, IsLinearOffence, IsMatrixOffence, IsSystemOffence, not_allowed, not_joining, not_claimed, IsModelOffence, IsBodyOffence}
+use Rattle.etp_check.specs.Claimed.{claim_refused}
 use Rattle.etp_check.specs.declared.refusal.CheckRefusal.{CheckRefusal}
 use Rattle.etp_check.specs.declared.refusal.CheckRefusal.TheVariants as Program
-use Rattle.etp_check.specs.declared.refusal.CheckRefusal.TheVariants.{Replay, Linear, Matrix}
+use Rattle.etp_check.specs.declared.refusal.CheckRefusal.TheVariants.{Replay, Linear, Matrix, Rules, Pairs}
 
 some_size : (n : ℕ) (entries : List ℕ) (r : TableRefusal) → IsFirstWrong n entries r → 1 ≤ n
 some_size n entries (Entry row column value) h = omega (arith, h.0)
@@ -51,6 +57,26 @@ one_matrix laws g claims r s (inl x) (inr y) = absurd (MatrixOffences.in_or_out 
 one_matrix laws g claims r s (inr x) (inl y) = absurd (MatrixOffences.in_or_out g s x.0 y)
 one_matrix laws g claims r s (inr x) (inr y) = MatrixOffences.one_offence laws g claims.holds claims.fails r s x.1 y.1
 
+all_decrease : (w : Weight) (rs : List Equation) → IsInRange w → AreAllowed w rs → AllDecrease w rs
+all_decrease w rs range allowed = record {
+  left_counts = omega (arith, range.left_low);
+  right_counts = omega (arith, range.right_low);
+  each = λ i e there. (allowed i e there).decreasing;
+}
+
+one_system : (laws : List Equation) (w : Weight) (rs : List Equation) (claims : Claims) (r s : CheckRefusal) → IsSystemOffence laws w rs claims r → IsSystemOffence laws w rs claims s → r ≡ s
+one_system laws w rs claims r s (not_allowed t is x) (not_allowed u also y) = is ∙ ap Rules (Systems.one_refusal w rs t u x y) ∙ sym also
+one_system laws w rs claims r s (not_allowed t is x) (not_joining u also some range allowed y) = absurd (Systems.never_both w rs t x range allowed)
+one_system laws w rs claims r s (not_allowed t is x) (not_claimed u also magma y) = absurd (Systems.never_both w rs t x magma.in_range magma.allowed)
+one_system laws w rs claims r s (not_joining t is some range allowed x) (not_allowed u also y) = absurd (Systems.never_both w rs u y range allowed)
+one_system laws w rs claims r s (not_joining t is one range allowed x) (not_joining u also two low all y) =
+    is ∙ ap Pairs (Overlapping.one_refusal w rs (all_decrease w rs range allowed) t u x y one two) ∙ sym also
+one_system laws w rs claims r s (not_joining t is some range allowed x) (not_claimed u also magma y) = absurd (some (Overlapping.passes w rs t magma.convergent x))
+one_system laws w rs claims r s (not_claimed t is magma x) (not_allowed u also y) = absurd (Systems.never_both w rs u y magma.in_range magma.allowed)
+one_system laws w rs claims r s (not_claimed t is magma x) (not_joining u also some range allowed y) = absurd (some (Overlapping.passes w rs u magma.convergent y))
+one_system laws w rs claims r s (not_claimed t is magma x) (not_claimed u also other y) =
+    is ∙ ap claim_refused (Canonical.one_offence laws rs claims.holds claims.fails t u x y) ∙ sym also
+
 -- a magma that is right has no offence
 right_model : (laws : List Equation) (m : Model) (claims : Claims) (r : CheckRefusal) → IsRightModel laws m claims → ¬ IsModelOffence laws m claims r
 right_model laws (table size entries) claims r right (t, is, inl wrong) = verdict_theorems.entries_or_wrong (record { size = size; entries = entries }) t right.0 wrong
@@ -60,6 +86,9 @@ right_model laws (linear l) claims r right (t, is, inl out) = Linears.in_or_out 
 right_model laws (linear l) claims r right (t, is, inr offence) = not_both laws l claims.holds claims.fails t right.1 offence.1
 right_model laws (matrix g) claims r right (t, is, inl out) = MatrixOffences.in_or_out g t right.0 out
 right_model laws (matrix g) claims r right (t, is, inr offence) = Matrices.not_both laws g claims.holds claims.fails t right.1 offence.1
+right_model laws (rules w rs) claims r right (not_allowed t is refused) = Systems.never_both w rs t refused right.0.in_range right.0.allowed
+right_model laws (rules w rs) claims r right (not_joining t is some range allowed refused) = some (Overlapping.passes w rs t right.0.convergent refused)
+right_model laws (rules w rs) claims r right (not_claimed t is magma offence) = Canonical.not_both laws rs claims.holds claims.fails t right.1 offence
 
 -- and any other has one
 one_model_offence : (laws : List Equation) (m : Model) (claims : Claims) (r s : CheckRefusal) → IsModelOffence laws m claims r → IsModelOffence laws m claims s → r ≡ s
@@ -67,6 +96,7 @@ one_model_offence laws (table size entries) claims r s (t, is, x) (u, also, y) =
     is ∙ ap Program.Table (one_table laws (record { size = size; entries = entries }) claims t u x y) ∙ sym also
 one_model_offence laws (linear l) claims r s (t, is, x) (u, also, y) = is ∙ ap Linear (one_linear laws l claims t u x y) ∙ sym also
 one_model_offence laws (matrix g) claims r s (t, is, x) (u, also, y) = is ∙ ap Matrix (one_matrix laws g claims t u x y) ∙ sym also
+one_model_offence laws (rules w rs) claims r s x y = one_system laws w rs claims r s x y
 
 pub right_or_refused : (l : LawList) (body : FileBody) (cited : List ℕ) (r : CheckRefusal) → IsRightBody l.equations body cited → ¬ IsBodyOffence l body cited r
 right_or_refused l (proof p) cited r right (t, is, offence) =

@@ -3,17 +3,21 @@ ghost use Rattle.etp_theory.specs.LawNumbers.{law_numbered};
 ghost use Rattle.etp_theory.specs.Reach.{refutes};
 ghost use Rattle.etp_closure.specs.Facts.{fact_of};
 ghost use Rattle.etp_matrix.specs.Magmas.{IsShape};
-ghost use Rattle.etp_items.specs.Bodies.{body_of, proof_of, linear_in, matrix_in, claims_of, proof, model, table, linear, matrix};
-ghost use Rattle.etp_check.specs.Checks.{fact_said, IsListedBody, HasContent, AreCitedNumbers, IsValidBody, IsRightBody, IsRightModel, SaysRight};
+ghost use Rattle.etp_rules.specs.Rules.{rules_of};
+ghost use Rattle.etp_items.specs.Bodies.{body_of, proof_of, linear_in, matrix_in, weight_of, claims_of, proof, model, table, linear, matrix, rules};
+ghost use Rattle.etp_check.specs.Checks.{fact_said, IsListedBody, HasContent, HasRules, AreCitedNumbers, IsValidBody, IsRightBody, IsRightModel, SaysRight};
 ghost use Rattle.etp_check.specs.Refusals.{IsCheckRefused};
 
 use crate::refusal::CheckRefusal;
+use crate::system::system_of;
 use etp_bits::Numbers;
+use etp_canonical::judge;
 use etp_closure::Fact;
-use etp_items::{Body, Claims, LinearBody, MatrixBody, TableBody};
+use etp_items::{Body, Claims, LinearBody, MatrixBody, RulesBody, TableBody};
 use etp_laws::Laws;
 use etp_linear::Linear;
 use etp_matrix::MatrixLinear;
+use etp_pairs::convergent;
 use etp_proof::Proof;
 use etp_replay::replay;
 use etp_table::OpTable;
@@ -37,6 +41,7 @@ pub fn check(alloc: Global, laws: &Laws, body: &Body, cited: &[u32]) -> Result<F
         Body::Table(table) => check_table(alloc, laws, table, cited),
         Body::Linear(linear) => check_linear(alloc, laws, linear, cited),
         Body::Matrix(matrix) => check_matrix(alloc, laws, matrix, cited),
+        Body::Rules(rules) => check_rules(alloc, laws, rules, cited),
     }
 }
 
@@ -144,6 +149,40 @@ fn check_matrix(
     match matrix.judge(laws, claims.holds.as_slice(), claims.fails.as_slice()) {
         Ok(()) => Ok(refutation(alloc, claims)?),
         Err(refusal) => Err(CheckRefusal::Matrix(refusal)),
+    }
+}
+
+fn check_rules(
+    alloc: Global,
+    laws: &Laws,
+    body: &RulesBody,
+    cited: &[u32],
+) -> Result<Fact, CheckRefusal>
+    requires rules { HasRules (rules_of body.now.rules) }
+    requires holds { All (λ n. IsSome (law_numbered laws.now.equations n)) body.now.claims.holds }
+    requires fails { All (λ n. IsSome (law_numbered laws.now.equations n)) body.now.claims.fails }
+    ensures fact { IfOk result (λ fact. fact_of fact
+        ≡ fact_said (model (rules (weight_of body.now) (rules_of body.now.rules)) (claims_of body.now.claims))) }
+    ensures right { OnOk result (IsRightModel laws.now.equations
+        (rules (weight_of body.now) (rules_of body.now.rules)) (claims_of body.now.claims)) }
+    ensures err { IfErr result (λ r. IsCheckRefused laws.now
+        (model (rules (weight_of body.now) (rules_of body.now.rules)) (claims_of body.now.claims)) cited.now r) }
+{
+    let system = system_of(alloc, body)?;
+    match convergent(alloc, &system) {
+        Ok(()) => {}
+        Err(refusal) => return Err(CheckRefusal::of_pairs(refusal)),
+    }
+    let claims = &body.claims;
+    match judge(
+        alloc,
+        &system,
+        laws,
+        claims.holds.as_slice(),
+        claims.fails.as_slice(),
+    ) {
+        Ok(()) => Ok(refutation(alloc, claims)?),
+        Err(refusal) => Err(CheckRefusal::of_claim(refusal)),
     }
 }
 

@@ -1,12 +1,15 @@
-ghost use Rattle.std.specs.Prelude.{◌≡◌, ◌∷◌, [], IfOk};
+ghost use Rattle.std.specs.Prelude.{◌≡◌, ◌∷◌, [], IfOk, IsTrue};
+ghost use Rattle.etp_rules.specs.Rules.{rules_of};
+ghost use Rattle.etp_check.specs.Checks.{HasRules};
 
-use crate::{CheckRefusal, check};
+use crate::{CheckRefusal, check, system_of};
 use etp_bits::Numbers;
 use etp_closure::Fact;
-use etp_items::{Body, Claims, LinearBody};
+use etp_items::{Body, Claims, LinearBody, RulesBody};
 use etp_laws::Laws;
 use etp_linear::{LinearRefusal, Ring, Which};
 use etp_proof::{Cites, Lemma, Lemmas, Proof, Step, Steps};
+use etp_rules::{Rule, RuleList, RulesRefusal};
 use etp_term::{NoMemory, Position, Term};
 use sqlite_items::Boxed;
 use std::alloc::Global;
@@ -100,6 +103,71 @@ fn a_linear_magma_refutes(rt: HostRuntime) {
                 which: Which::A,
                 value: 3
             }))
+        )
+    );
+}
+
+fn op(alloc: Global, left: Term, right: Term) -> Result<Term, NoMemory> {
+    Ok(Term::Op(Boxed::new(alloc, left)?, Boxed::new(alloc, right)?))
+}
+
+/// The rule `(x * y) * z -> x * (y * z)`.
+fn reassociation(alloc: Global) -> Result<RuleList, NoMemory> {
+    let left = op(alloc, op(alloc, Term::Var(0), Term::Var(1))?, Term::Var(2))?;
+    let right = op(alloc, Term::Var(0), op(alloc, Term::Var(1), Term::Var(2))?)?;
+    let mut rules = RuleList::empty(alloc);
+    rules.push(Rule { left, right })?;
+    Ok(rules)
+}
+
+fn has_rules(rules: &RuleList) -> bool
+    ensures { IsTrue result → HasRules (rules_of rules.now) }
+{
+    if rules.len() != 1 {
+        return false;
+    }
+    rules.has_small_variables()
+}
+
+// Under this rule and a weight law 4512 is to hold and another to fail.
+fn rewritten(
+    alloc: Global,
+    weight: [u32; 3],
+    fails: u32,
+) -> Result<Result<Fact, CheckRefusal>, NoMemory> {
+    let laws = Laws::build(alloc)?;
+    let rules = reassociation(alloc)?;
+    if laws.law(4512).is_none() || laws.law(fails).is_none() {
+        return Err(std::alloc::AllocError);
+    }
+    if !has_rules(&rules) {
+        return Err(std::alloc::AllocError);
+    }
+    let body = RulesBody {
+        weight,
+        rules,
+        claims: Claims {
+            holds: one(alloc, 4512)?,
+            fails: one(alloc, fails)?,
+        },
+    };
+    if let Err(refusal) = system_of(alloc, &body) {
+        return Ok(Err(refusal));
+    }
+    Ok(check(alloc, &laws, &Body::Rules(body), &[]))
+}
+
+#[test]
+fn a_rule_system_refutes(rt: HostRuntime) {
+    let fact = rewritten(rt.alloc(), [2, 1, 1], 43).expect(&rt, "memory");
+    assert!(rt; matches!(fact, Ok(Fact::Refutes { .. })));
+    let held = rewritten(rt.alloc(), [2, 1, 1], 4512).expect(&rt, "memory");
+    assert!(rt; matches!(held, Err(CheckRefusal::FailsHolds { law: 4512, .. })));
+    let out = rewritten(rt.alloc(), [0, 1, 1], 43).expect(&rt, "memory");
+    assert!(rt;
+        matches!(
+            out,
+            Err(CheckRefusal::Rules(RulesRefusal::WeightRange { which: 0 }))
         )
     );
 }

@@ -37,7 +37,7 @@ pub(crate) fn goals_cited(
 {
     match body {
         Body::Proof(proof) => goals_of(alloc, files, proof.hypothesis, &proof.cites),
-        Body::Table(_) | Body::Linear(_) | Body::Matrix(_) => Ok(Vec::new(alloc)),
+        Body::Table(_) | Body::Linear(_) | Body::Matrix(_) | Body::Rules(_) => Ok(Vec::new(alloc)),
     }
 }
 
@@ -111,7 +111,7 @@ fn cites(body: &Body, name: &[u8]) -> bool
 {
     match body {
         Body::Proof(proof) => contains(&proof.cites, name),
-        Body::Table(_) | Body::Linear(_) | Body::Matrix(_) => false,
+        Body::Table(_) | Body::Linear(_) | Body::Matrix(_) | Body::Rules(_) => false,
     }
 }
 

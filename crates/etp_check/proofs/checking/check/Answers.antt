@@ -18,3 +18,7 @@ returns-in-Linear-clause-right c =
 pub returns-in-Matrix-clause-right : goal.returns-in-Matrix-clause-right
 returns-in-Matrix-clause-right c =
     says_right c.check_matrix.result c.args.laws.now.equations (body_of c.args.body.now) c.args.cited.now c.requires.listed c.requires.content c.requires.cited (search rules)
+
+pub returns-in-Rules-clause-right : goal.returns-in-Rules-clause-right
+returns-in-Rules-clause-right c =
+    says_right c.check_rules.result c.args.laws.now.equations (body_of c.args.body.now) c.args.cited.now c.requires.listed c.requires.content c.requires.cited (search rules)
