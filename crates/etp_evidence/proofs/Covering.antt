@@ -1,11 +1,11 @@
 -- A cover's law that fails does so in the magma of the cover's file.
-use Rattle.std.proofs.Common.{◌≡◌, ℕ, List, Bool, true, false, Contains, All, Option, Some, slice_get, length, refl, sym, ap, subst, ◌∙◌}
+use Rattle.std.proofs.Common.{◌≡◌, ℕ, List, Bool, true, false, Contains, Some, slice_get, length, refl, sym, ap, subst, ◌∙◌}
 use Rattle.std.specs.Option.{option_map}
 use Rattle.std.proofs.lemmas.Option.{slice_get-map, same_Some}
 use Rattle.std.proofs.lemmas.List.Elements.{All-contains}
 use Rattle.etp_theory.specs.Trees.{Equation}
-use Rattle.etp_theory.specs.LawNumbers.{IsLaw, IsOwnInverse, dual_number}
-use Rattle.etp_theory.specs.Reach.{Fact, implies, refutes}
+use Rattle.etp_theory.specs.LawNumbers.{IsLaw, IsOwnInverse}
+use Rattle.etp_theory.specs.Reach.{refutes}
 use Rattle.etp_laws.specs.Listing.{IsTheList}
 use Rattle.etp_laws.specs.LawLists.{LawList}
 use Rattle.etp_closure.specs.Tables.{image_of}
@@ -14,9 +14,10 @@ use Rattle.etp_chain.specs.declared.evidence.Cover.{Cover}
 use Rattle.etp_table.specs.Judgements as Tables
 use Rattle.etp_linear.specs.Judgements as Linears
 use Rattle.etp_matrix.specs.Judgements as Matrices
+use Rattle.etp_canonical.specs.Judgements as Systems
 use Rattle.etp_lines.specs.Claims.{Claims}
-use Rattle.etp_items.specs.Bodies.{FileBody, Model, table, linear, matrix, proof, model}
-use Rattle.etp_check.specs.Checks.{fact_said, IsRightModel, IsValidBody, HasLaws}
+use Rattle.etp_items.specs.Bodies.{FileBody, Model, table, linear, matrix, rules, proof, model}
+use Rattle.etp_check.specs.Checks.{fact_said, HasModelContent, IsRightModel, IsValidBody}
 use Rattle.etp_check.proofs.Rights.{listed_fact}
 use Rattle.etp_ledger.specs.Files.{File, facts_of, cited_goals}
 use Rattle.etp_ledger.specs.Accepting.{IsValidFor}
@@ -24,11 +25,13 @@ use Rattle.etp_ledger.specs.Ledgers.{Entries, IsOver}
 use Rattle.etp_evidence.specs.Failing.{FailsIn, FailsInBody}
 
 -- a law that is to fail does so
-claimed_fails : (laws : List Equation) (m : Model) (claims : Claims) (n : ℕ) → IsRightModel laws m claims → Contains claims.fails n → FailsIn laws m n
-claimed_fails laws (table size entries) claims n right there =
+claimed_fails : (laws : List Equation) (m : Model) (claims : Claims) (n : ℕ) → HasModelContent m → IsRightModel laws m claims → Contains claims.fails n → FailsIn laws m n
+claimed_fails laws (table size entries) claims n content right there =
     (right.0, All-contains (Tables.LawFails laws (record { size = size; entries = entries })) claims.fails n right.1.failing there)
-claimed_fails laws (linear l) claims n right there = (right.0, All-contains (Linears.LawFails laws l) claims.fails n right.1.failing there)
-claimed_fails laws (matrix g) claims n right there = (right.0, All-contains (Matrices.LawFails laws g) claims.fails n right.1.failing there)
+claimed_fails laws (linear l) claims n content right there = (right.0, All-contains (Linears.LawFails laws l) claims.fails n right.1.failing there)
+claimed_fails laws (matrix g) claims n content right there = (right.0, All-contains (Matrices.LawFails laws g) claims.fails n right.1.failing there)
+claimed_fails laws (rules w rs) claims n content right there =
+    (content, right.0, All-contains (Systems.LawFails laws rs) claims.fails n right.1.failing there)
 
 -- what a valid body says that refutes
 refuted : (laws : List Equation) (body : FileBody) (cited holds fails : List ℕ) (n : ℕ) → IsValidBody laws body cited
@@ -37,7 +40,7 @@ refuted laws (proof p) cited holds fails n valid is there = absurd (cc)
 refuted laws (model m claims) cited holds fails n valid is there =
     let same : claims.fails ≡ fails = cc in
     let claimed : Contains claims.fails n = subst (λ (l : List ℕ). Contains l n) (sym same) there in
-    (claimed_fails laws m claims n valid.right claimed, All-contains (IsLaw (length laws)) claims.fails n (listed_fact laws (model m claims) valid.listed).1 claimed)
+    (claimed_fails laws m claims n valid.content valid.right claimed, All-contains (IsLaw (length laws)) claims.fails n (listed_fact laws (model m claims) valid.listed).1 claimed)
 
 -- the dual of a law's dual is the law
 image_twice : (duals : List ℕ) (dual : Bool) (law : ℕ) → IsOwnInverse duals → IsLaw (length duals) law → image_of duals dual (image_of duals dual law) ≡ law

@@ -1,4 +1,5 @@
 pub mod EdgeLines
 pub mod Covering
 pub mod Shown
+pub mod SystemLaws
 pub mod OneWhy

@@ -10,15 +10,22 @@ ghost use Rattle.etp_linear.specs.Magmas.{IsLinearMagma};
 ghost use Rattle.etp_linear.specs.Linears as Linears;
 ghost use Rattle.etp_matrix.specs.Magmas.{IsMatrixMagma};
 ghost use Rattle.etp_matrix.specs.Linears as Matrices;
-ghost use Rattle.etp_items.specs.Bodies.{body_of, table, linear, matrix, linear_in, matrix_in};
+ghost use Rattle.etp_rules.specs.Rules.{rules_of};
+ghost use Rattle.etp_items.specs.Bodies.{body_of, table, linear, matrix, rules, linear_in, matrix_in, weight_of};
+ghost use Rattle.etp_check.specs.Checks.{HasRules, IsRuleMagma};
 ghost use Rattle.etp_evidence.specs.Failing.{FailsIn, FailsInBody, IsFailureLine, IsBodyFailure, Appends};
 
-use etp_items::{Body, LinearBody, MatrixBody, TableBody};
+use etp_check::{CheckRefusal, system_of};
+use etp_items::{Body, LinearBody, MatrixBody, RulesBody, TableBody};
 use etp_laws::Laws;
 use etp_linear::Linear;
 use etp_matrix::MatrixLinear;
-use etp_print::{append_linear_failure, append_matrix_failure, append_table_failure};
+use etp_pairs::{Judged, judge_terms};
+use etp_print::{
+    append_linear_failure, append_matrix_failure, append_rules_failure, append_table_failure,
+};
 use etp_profile::table_of;
+use etp_rules::RuleSystem;
 use etp_table::Verdict;
 use etp_term::Law;
 use etp_text::Text;
@@ -41,6 +48,7 @@ pub(crate) fn append_failure(
         Body::Table(body) => append_in_table(alloc, text, laws, body, number),
         Body::Linear(body) => append_in_linear(text, laws, body, number),
         Body::Matrix(body) => append_in_matrix(text, laws, body, number),
+        Body::Rules(body) => append_in_rules(alloc, text, laws, body, number),
     }
 }
 
@@ -95,6 +103,43 @@ fn append_in_matrix(
     match matrix.first_failure(listed(laws, number)) {
         None => unreachable!(),
         Some(failure) => append_matrix_failure(text, number, body.size, &failure),
+    }
+}
+
+fn append_in_rules(
+    alloc: Global,
+    text: &mut Text,
+    laws: &Laws,
+    body: &RulesBody,
+    number: u32,
+) -> Result<(), AllocError>
+    requires { FailsIn laws.now.equations
+        (rules (weight_of body.now) (rules_of body.now.rules)) number }
+    ensures { OnOk result (Appends text.old text.new (IsFailureLine laws.now.equations
+        (rules (weight_of body.now) (rules_of body.now.rules)) number)) }
+{
+    let system = rules_in(alloc, body)?;
+    let law = listed(laws, number);
+    match judge_terms(alloc, &system, &law.left, &law.right)? {
+        Judged::OneForm(_) => unreachable!(),
+        Judged::TwoForms(left_form, right_form) => {
+            append_rules_failure(text, number, &left_form, &right_form)
+        }
+        Judged::TermLimit => unreachable!(),
+        Judged::StepLimit => unreachable!(),
+    }
+}
+
+/// The rule system of a valid body.
+fn rules_in(alloc: Global, body: &RulesBody) -> Result<RuleSystem, AllocError>
+    requires some { HasRules (rules_of body.now.rules) }
+    requires magma { IsRuleMagma (weight_of body.now) (rules_of body.now.rules) }
+    ensures { IfOk result (λ system. system.rules ≡ body.now.rules) }
+{
+    match system_of(alloc, body) {
+        Ok(system) => Ok(system),
+        Err(CheckRefusal::Rules(_)) => unreachable!(),
+        Err(_) => Err(AllocError),
     }
 }
 

@@ -2,3 +2,4 @@ pub mod TextLemmas
 pub mod GivenLemmas
 pub mod Values
 pub mod Commas
+pub mod NumberingLemmas

@@ -1,5 +1,7 @@
 -- The lines of evidence, without the newline.
 use Rattle.std.specs.Prelude.{ℕ, List, [], ◌++◌, Bool, codes, decimal, if◌then◌else◌}
+use Rattle.etp_theory.specs.Trees.{Tree}
+use Rattle.etp_text.specs.Written.{written_term}
 use Rattle.etp_chain.specs.declared.evidence.Edge.{Edge}
 use Rattle.etp_chain.specs.declared.evidence.Cover.{Cover}
 use Rattle.etp_table.specs.Points.{values_of}
@@ -34,3 +36,9 @@ linear_failure n f = codes "fails " ++ decimal n ++ failure_text f
 -- in a matrix-linear magma over vectors of so many numbers
 abbrev pub matrix_failure : ℕ → ℕ → MatrixFailure → List ℕ
 matrix_failure n size f = codes "fails " ++ decimal n ++ unit_vector_text f.at ++ vectors_text size f
+
+-- in a rule system, by the normal forms of its two sides
+abbrev pub rules_failure : ℕ → Tree → Tree → List ℕ
+rules_failure n u v =
+    codes "fails " ++ decimal n ++ codes " left " ++ written_term u
+    ++ codes " right " ++ written_term v

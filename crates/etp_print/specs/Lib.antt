@@ -1,4 +1,6 @@
 pub mod Texts
+pub mod Numbering
+pub mod RulesTexts
 pub mod RefusalTexts
 pub mod EvidenceTexts
 pub mod Given

@@ -1,6 +1,7 @@
 -- The texts of refusals.
 use Rattle.std.specs.Prelude.{ℕ, ℤ, ◌+◌, List, [], ◌∷◌, ◌++◌, take, codes, decimal, Option, None, Some}
 use Rattle.std.specs.Fmt.{signed_decimal}
+use Rattle.etp_term.specs.Terms.{tree_of}
 use Rattle.etp_laws.specs.declared.laws.Numbered.{Numbered}
 use Rattle.etp_laws.specs.declared.laws.Numbered.TheVariants.{Is, Trivial, TooManyOps}
 use Rattle.etp_text.specs.declared.refusal.TextRefusal.{TextRefusal}
@@ -26,6 +27,7 @@ use Rattle.etp_matrix.specs.declared.parts.MatrixFailure.{MatrixFailure}
 use Rattle.etp_matrix.specs.declared.refusal.MatrixRefusal.{MatrixRefusal}
 use Rattle.etp_matrix.specs.declared.refusal.MatrixRefusal.TheVariants as Matrix
 use Rattle.etp_lines.specs.MatrixLines.{part_word}
+use Rattle.etp_print.specs.RulesTexts.{rules_refusal, pairs_refusal, holds_fails_text, fails_holds_text}
 use Rattle.etp_replay.specs.declared.refusal.ReplayRefusal.TheVariants.{Reference, NoPlace, OutsideChanged, NoMatch, GoalDiffers, Citation, NoMemory}
 
 -- why the text of a law is refused
@@ -157,6 +159,12 @@ check_refusal size (Checked.Replay r) = replay_refusal r
 check_refusal size (Checked.Table r) = table_refusal r
 check_refusal size (Checked.Linear r) = linear_refusal r
 check_refusal size (Checked.Matrix r) = matrix_refusal size r
+check_refusal size (Checked.Rules r) = rules_refusal r
+check_refusal size (Checked.Pairs r) = pairs_refusal r
+check_refusal size (Checked.HoldsFails law u v) = holds_fails_text law (tree_of u) (tree_of v)
+check_refusal size (Checked.FailsHolds law u) = fails_holds_text law (tree_of u)
+check_refusal size (Checked.TermLimit law) = codes "term limit law " ++ decimal law
+check_refusal size (Checked.StepLimit law) = codes "step limit law " ++ decimal law
 check_refusal size Checked.NoMemory = []
 
 -- why the ledger refuses a file

@@ -1,15 +1,18 @@
 // The lines of evidence.
 ghost use Rattle.std.specs.Prelude.{◌≡◌, ◌≤◌, ◌++◌, IfOk, OnOk};
-ghost use Rattle.etp_print.specs.EvidenceTexts.{file_text, edge_line, cover_line, table_failure, linear_failure, matrix_failure};
+ghost use Rattle.etp_term.specs.Terms.{tree_of};
+ghost use Rattle.etp_print.specs.EvidenceTexts.{file_text, edge_line, cover_line, table_failure, linear_failure, matrix_failure, rules_failure};
 
 use crate::linear::append_failure;
 use crate::matrix::{append_unit_vector, append_vectors};
 use crate::refusal::append_with;
+use crate::rules::append_with_term;
 use crate::table::{append_point, append_sides};
 use etp_chain::{Cover, Edge};
 use etp_linear::LinearFailure;
 use etp_matrix::MatrixFailure;
 use etp_table::Point;
+use etp_term::Term;
 use etp_text::Text;
 use std::alloc::{AllocError, Global};
 
@@ -99,4 +102,19 @@ pub fn append_matrix_failure(
     append_with(text, b"fails ", law)?;
     append_unit_vector(text, failure.at)?;
     append_vectors(text, size, failure)
+}
+
+/// Appends the normal forms of the sides of a law that fails in a rule system, without the newline.
+pub fn append_rules_failure(
+    text: &mut Text,
+    law: u32,
+    left_form: &Term,
+    right_form: &Term,
+) -> Result<(), AllocError>
+    ensures { OnOk result (text.new ≡ text.old
+        ++ rules_failure law (tree_of left_form.now) (tree_of right_form.now)) }
+{
+    append_with(text, b"fails ", law)?;
+    append_with_term(text, b" left ", left_form)?;
+    append_with_term(text, b" right ", right_form)
 }

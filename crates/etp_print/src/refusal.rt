@@ -1,9 +1,10 @@
 // The texts of refusals.
 ghost use Rattle.std.specs.Prelude.{◌≡◌, ◌≢◌, ◌≤◌, ◌++◌, IfOk, OnOk, codes, decimal};
-ghost use Rattle.etp_print.specs.RefusalTexts.{body_refusal, found_text, step_place, replay_refusal, file_refusal};
+ghost use Rattle.etp_print.specs.RefusalTexts.{body_refusal, found_text, step_place, replay_refusal, check_refusal, file_refusal};
 
 use crate::linear::append_linear_refusal;
 use crate::matrix::append_matrix_refusal;
+use crate::rules::{append_forms, append_pairs_refusal, append_rules_refusal, append_with_term};
 use crate::table::append_table_refusal;
 use etp_check::CheckRefusal;
 use etp_laws::Numbered;
@@ -82,19 +83,54 @@ fn append_replay_refusal(text: &mut Text, refusal: &ReplayRefusal) -> Result<(),
     }
 }
 
+// Appends why a body isn't valid.
+fn append_check_refusal(
+    alloc: Global,
+    text: &mut Text,
+    size: u8,
+    refusal: &CheckRefusal,
+) -> Result<(), AllocError>
+    requires { size ≤ 4 }
+    ensures { OnOk result (text.new ≡ text.old ++ check_refusal size refusal.now) }
+{
+    match refusal {
+        CheckRefusal::Replay(refusal) => append_replay_refusal(text, refusal),
+        CheckRefusal::Table(refusal) => append_table_refusal(text, refusal),
+        CheckRefusal::Linear(refusal) => append_linear_refusal(text, refusal),
+        CheckRefusal::Matrix(refusal) => append_matrix_refusal(text, size, refusal),
+        CheckRefusal::Rules(refusal) => append_rules_refusal(text, refusal),
+        CheckRefusal::Pairs(refusal) => append_pairs_refusal(alloc, text, refusal),
+        CheckRefusal::HoldsFails {
+            law,
+            left_form,
+            right_form,
+        } => {
+            append_with(text, b"holds fails law ", *law)?;
+            append_forms(text, left_form, right_form)
+        }
+        CheckRefusal::FailsHolds { law, form } => {
+            append_with(text, b"fails holds law ", *law)?;
+            append_with_term(text, b": ", form)
+        }
+        CheckRefusal::TermLimit { law } => append_with(text, b"term limit law ", *law),
+        CheckRefusal::StepLimit { law } => append_with(text, b"step limit law ", *law),
+        CheckRefusal::NoMemory => Ok(()),
+    }
+}
+
 // Appends why the ledger refuses a file.
-fn append_file_refusal(text: &mut Text, size: u8, refusal: &LedgerRefusal) -> Result<(), AllocError>
+fn append_file_refusal(
+    alloc: Global,
+    text: &mut Text,
+    size: u8,
+    refusal: &LedgerRefusal,
+) -> Result<(), AllocError>
     requires { size ≤ 4 }
     ensures text { OnOk result (text.new ≡ text.old ++ file_refusal size refusal.now) }
     ensures cause { OnOk result (refusal.now ≢ LedgerRefusal.NoMemory) }
 {
     match refusal {
-        LedgerRefusal::Check(CheckRefusal::Replay(refusal)) => append_replay_refusal(text, refusal),
-        LedgerRefusal::Check(CheckRefusal::Table(refusal)) => append_table_refusal(text, refusal),
-        LedgerRefusal::Check(CheckRefusal::Linear(refusal)) => append_linear_refusal(text, refusal),
-        LedgerRefusal::Check(CheckRefusal::Matrix(refusal)) => {
-            append_matrix_refusal(text, size, refusal)
-        }
+        LedgerRefusal::Check(refusal) => append_check_refusal(alloc, text, size, refusal),
         LedgerRefusal::CiteMissing { cite } => append_with(text, b"cite missing ", *cite),
         LedgerRefusal::CiteOther { cite } => append_with(text, b"cite other ", *cite),
         LedgerRefusal::NoMemory => Err(AllocError),
@@ -132,6 +168,6 @@ pub fn file_refusal_text(
     ensures cause { OnOk result (refusal.now ≢ LedgerRefusal.NoMemory) }
 {
     let mut text = Text::empty(alloc);
-    append_file_refusal(&mut text, size, refusal)?;
+    append_file_refusal(alloc, &mut text, size, refusal)?;
     Ok(text)
 }

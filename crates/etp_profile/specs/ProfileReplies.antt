@@ -5,7 +5,7 @@ use Rattle.etp_theory.specs.Trees.{Equation}
 use Rattle.etp_proof.specs.Names.{IsName}
 use Rattle.etp_table.specs.Tables.{Table}
 use Rattle.etp_sweep.specs.Profiles.{IsProfile, greatest_size}
-use Rattle.etp_items.specs.Bodies.{FileBody, table, linear, matrix, proof, model}
+use Rattle.etp_items.specs.Bodies.{FileBody, table, linear, matrix, rules, proof, model}
 use Rattle.etp_items.specs.Written.{spaced_behind}
 use Rattle.etp_ledger.specs.Files.{File, body_named}
 use Rattle.etp_print.specs.Texts.{Reply, answered, refused}
@@ -16,6 +16,7 @@ table_in (proof p) = None
 table_in (model (table size entries) claims) = Some (record { size = size; entries = entries })
 table_in (model (linear l) claims) = None
 table_in (model (matrix g) claims) = None
+table_in (model (rules w rs) claims) = None
 
 -- the name, how many laws hold, and their numbers
 abbrev pub profile_line : List ℕ → List ℕ → List ℕ

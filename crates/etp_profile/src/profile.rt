@@ -43,6 +43,7 @@ pub fn answer_profile(
         Some(Body::Proof(_)) => refuse_name(text, line, b"not a table ", word),
         Some(Body::Linear(_)) => refuse_name(text, line, b"not a table ", word),
         Some(Body::Matrix(_)) => refuse_name(text, line, b"not a table ", word),
+        Some(Body::Rules(_)) => refuse_name(text, line, b"not a table ", word),
     }
 }
 

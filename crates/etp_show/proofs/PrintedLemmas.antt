@@ -1,7 +1,7 @@
 -- The printed files, one by one.
 use Rattle.std.proofs.Common.{◌≡◌, ℕ, ◌+◌, ◌<◌, ◌≤◌, List, [], ◌∷◌, ◌++◌, append_assoc, length, take, append-nil, refl, sym, ◌∙◌, ap, subst, Some}
 use Rattle.std.specs.Prelude.{slice_get}
-use Rattle.etp_items.specs.Bodies.{FileBody, Model, table, linear, matrix, proof, model}
+use Rattle.etp_items.specs.Bodies.{FileBody, Model, table, linear, matrix, rules, proof, model}
 use Rattle.etp_items.specs.Written.{HasSize}
 use Rattle.etp_laws.specs.Listing.{IsTheList}
 use Rattle.etp_laws.specs.LawLists.{LawList}
@@ -31,6 +31,7 @@ has_size (proof p) h = tt
 has_size (model (table size entries) claims) h = h.0
 has_size (model (linear l) claims) h = tt
 has_size (model (matrix g) claims) h = h.at_least
+has_size (model (rules w rs) claims) h = tt
 
 pub valid_size : (laws : LawList) (ledger : Entries) (body : FileBody) → IsOver laws ledger → IsValidFor ledger.order ledger.files body → HasSize body
 valid_size laws ledger body over valid =

@@ -1,7 +1,7 @@
 -- The files that stand, as lines.
 use Rattle.std.specs.Prelude.{ℕ, List, [], ◌∷◌, ◌++◌, codes, decimal, length}
 use Rattle.etp_lines.specs.Claims.{Claims}
-use Rattle.etp_items.specs.Bodies.{FileBody, Model, table, linear, matrix, proof, model}
+use Rattle.etp_items.specs.Bodies.{FileBody, Model, table, linear, matrix, rules, proof, model}
 use Rattle.etp_ledger.specs.Files.{File}
 
 -- how many laws are to hold, and how many are to fail
@@ -13,6 +13,7 @@ abbrev pub model_word : Model → List ℕ
 model_word (table size entries) = codes "table"
 model_word (linear l) = codes "linear"
 model_word (matrix g) = codes "matrix"
+model_word (rules w rs) = codes "rules"
 
 -- a file's kind and laws
 abbrev pub kind_text : FileBody → List ℕ

@@ -41,6 +41,10 @@ fn append_kind(text: &mut Text, body: &Body) -> Result<(), AllocError>
             text.append(b"matrix ")?;
             append_counts(text, &matrix.claims)
         }
+        Body::Rules(rules) => {
+            text.append(b"rules ")?;
+            append_counts(text, &rules.claims)
+        }
     }
 }
 

@@ -7,8 +7,8 @@ use Rattle.etp_survey.specs.PairReplies.{pair_line}
 use Rattle.etp_evidence.proofs.Shown.{answers-why, answers-unknown}
 use Rattle.etp_evidence.proofs.why.answer_why.Goals as goal
 
-pub returns-in_ok-append_shown-in-Ok : goal.returns-in_ok-append_shown-in-Ok
-returns-in_ok-append_shown-in-Ok c =
+pub returns-in-Ok : goal.returns-in-Ok
+returns-in-Ok c =
     answers-why c.args.laws.now c.args.ledger.now c.args.e c.args.f c.args.line (answer_shown c.in-Ok.why) c.args.text.now c.append_pair.new.text c.append_shown.new.text
     c.requires.over c.in-Ok.ensures.listed c.in-Ok.ensures.says c.in-Ok.ensures.means c.requires.empty
     (c.in_ok-append_pair-in-Ok.ensures ∙ ap (λ (a : Answer). c.args.text.now ++ pair_line c.args.e c.args.f (answer_text a)) c.answer.ensures) c.in_ok-append_shown-in-Ok.ensures

@@ -1,5 +1,5 @@
 use Rattle.std.proofs.Common.{ℕ, List, length, sym, subst, ap, ◌∙◌}
-use Rattle.etp_theory.specs.LawNumbers.{IsLaw, IsOwnInverse}
+use Rattle.etp_theory.specs.LawNumbers.{IsLaw}
 use Rattle.etp_closure.specs.Tables.{image_of}
 use Rattle.etp_items.specs.Bodies.{body_of}
 use Rattle.etp_evidence.specs.Failing.{FailsInBody}

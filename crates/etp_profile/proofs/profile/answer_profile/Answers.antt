@@ -22,3 +22,7 @@ returns-in-Some-Linear c = IfOk-then c.refuse_name-in-Some-Linear.result _ _ (λ
 pub returns-in-Some-Matrix : goal.returns-in-Some-Matrix
 returns-in-Some-Matrix c = IfOk-then c.refuse_name-in-Some-Matrix.result _ _ (λ refusal h. gives-refused c.args.line c.refuse_name-in-Some-Matrix.new.text _ refusal _
     (other_kind _ (c.in_ok-is_name.ensures.0 c.if-not-branch.false) (sym c.in-Some-Matrix.ensures.body) (rw c.in-Some-Matrix.field-0-is refl) refl) h) c.refuse_name-in-Some-Matrix.ensures
+
+pub returns-in-Some-Rules : goal.returns-in-Some-Rules
+returns-in-Some-Rules c = IfOk-then c.refuse_name-in-Some-Rules.result _ _ (λ refusal h. gives-refused c.args.line c.refuse_name-in-Some-Rules.new.text _ refusal _
+    (other_kind _ (c.in_ok-is_name.ensures.0 c.if-not-branch.false) (sym c.in-Some-Rules.ensures.body) (rw c.in-Some-Rules.field-0-is refl) refl) h) c.refuse_name-in-Some-Rules.ensures
