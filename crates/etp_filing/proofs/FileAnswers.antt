@@ -1,9 +1,7 @@
 -- Replies to files from the parts that give them.
-use Rattle.std.proofs.Common.{◌≡◌, ℕ, List, [], ◌∷◌, ◌++◌, refl, sym, ◌∙◌, ap, Option, None, Some, Bool, true, false}
-use Rattle.etp_io.specs.Texts.{LineText, whole, too_long}
-use Rattle.std.specs.Prelude.{is_some, position, if◌then◌else◌}
-use Rattle.etp_words.specs.Words.{words_of}
-use Rattle.etp_words.specs.Words.{are_blank}
+use Rattle.std.proofs.Common.{◌≡◌, ℕ, List, [], ◌∷◌, ◌++◌, sym, ◌∙◌, ap, Option, None, Some, Bool, true, false}
+use Rattle.etp_io.specs.Texts.{LineText}
+use Rattle.std.specs.Prelude.{is_some, position}
 use Rattle.etp_items.specs.declared.reader.BodyReader.{BodyReader}
 use Rattle.etp_items.specs.Work.{HasRead}
 use Rattle.etp_ledger.specs.Files.{File, is_named, body_named, Stands}
@@ -14,10 +12,9 @@ use Rattle.etp_desk.specs.States.{Filing}
 use Rattle.etp_desk.specs.Desks.{opened_of, Agrees, Leaves}
 use Rattle.etp_desk.specs.declared.opened.Opened.{Opened}
 use Rattle.etp_desk.proofs.Opening.{kept}
-use Rattle.etp_filing.specs.FileReplies.{FileReply, names_unbuilt, begins_unbuilt, are_all_blank, said_text, accepted_with, accepted_line}
-use Rattle.etp_filing.specs.Filings.{first_line_of, with_line, IsReading}
-use Rattle.etp_filing.specs.declared.filing.FirstLine.TheVariants.{Blank, NotBuilt, Other}
-use Rattle.etp_filing.proofs.FilingLemmas.{unbuilt-first, unbuilt-later, blank-first, blank-later, placed-stands, unplaced-free}
+use Rattle.etp_filing.specs.FileReplies.{FileReply, said_text, accepted_with, accepted_line}
+use Rattle.etp_filing.specs.Filings.{with_line, IsReading}
+use Rattle.etp_filing.proofs.FilingLemmas.{placed-stands, unplaced-free}
 
 -- a file that is refused
 pub refuses-file : (o : Opened) (g : Filing) (closed : Bool) (n : ℕ) (text why : List ℕ) (flag : Bool) → Agrees o → g.number ≡ n
@@ -33,64 +30,11 @@ refuses-file o g closed n text why flag a e r h = record {
   refused_is = h.1;
 }
 
--- what a first line tells
-pub first-blank : (l : LineText) → first_line_of l ≡ Blank → (names_unbuilt (l ∷ []) ≡ false) × (are_all_blank (l ∷ []) ≡ true)
-first-blank too_long h = absurd (cc)
-first-blank (whole line) h = go (are_blank (words_of line)) (begins_unbuilt (words_of line)) refl refl h
-  where
-    go : (b u : Bool) → are_blank (words_of line) ≡ b → begins_unbuilt (words_of line) ≡ u → (if b then Blank else (if u then NotBuilt else Other)) ≡ Blank
-        → (names_unbuilt (whole line ∷ []) ≡ false) × (are_all_blank (whole line ∷ []) ≡ true)
-    go true u e f h = (rw e refl, rw e refl)
-    go false true e f h = absurd (cc)
-    go false false e f h = absurd (cc)
-
-pub first-other : (l : LineText) → first_line_of l ≡ Other → (names_unbuilt (l ∷ []) ≡ false) × (are_all_blank (l ∷ []) ≡ false)
-first-other too_long h = (refl, refl)
-first-other (whole line) h = go (are_blank (words_of line)) (begins_unbuilt (words_of line)) refl refl h
-  where
-    go : (b u : Bool) → are_blank (words_of line) ≡ b → begins_unbuilt (words_of line) ≡ u → (if b then Blank else (if u then NotBuilt else Other)) ≡ Other
-        → (names_unbuilt (whole line ∷ []) ≡ false) × (are_all_blank (whole line ∷ []) ≡ false)
-    go true u e f h = absurd (cc)
-    go false true e f h = absurd (cc)
-    go false false e f h = (rw (e, f) refl, rw e refl)
-
-pub first-unbuilt : (l : LineText) → first_line_of l ≡ NotBuilt → names_unbuilt (l ∷ []) ≡ true
-first-unbuilt too_long h = absurd (cc)
-first-unbuilt (whole line) h = go (are_blank (words_of line)) (begins_unbuilt (words_of line)) refl refl h
-  where
-    go : (b u : Bool) → are_blank (words_of line) ≡ b → begins_unbuilt (words_of line) ≡ u → (if b then Blank else (if u then NotBuilt else Other)) ≡ NotBuilt
-        → names_unbuilt (whole line ∷ []) ≡ true
-    go true u e f h = absurd (cc)
-    go false true e f h = rw (e, f) refl
-    go false false e f h = absurd (cc)
-
--- a line more, before which all are blank
-pub reads-blank : (o : Opened) (name : List ℕ) (r s : BodyReader) (g : Filing) (l : LineText) → first_line_of l ≡ Blank
+-- a line more
+pub reads-on : (o : Opened) (name : List ℕ) (r s : BodyReader) (g : Filing) (l : LineText)
     → ((lines : List LineText) → HasRead r lines → HasRead s (lines ++ l ∷ [])) → s.tally.count ≡ r.tally.count
-    → IsReading o name r g × (are_all_blank g.lines ≡ true) → IsReading o name s (with_line g l) × (are_all_blank (g.lines ++ l ∷ []) ≡ true)
-reads-blank o name r s g l b pushed count h =
-    let first = first-blank l b in (
-      record { free = h.0.free; read = pushed g.lines h.0.read; count = count ∙ h.0.count; built = unbuilt-first g.lines l h.1 ∙ first.0 },
-      blank-first g.lines l h.1 ∙ first.1,
-    )
-
-pub reads-other : (o : Opened) (name : List ℕ) (r s : BodyReader) (g : Filing) (l : LineText) → first_line_of l ≡ Other
-    → ((lines : List LineText) → HasRead r lines → HasRead s (lines ++ l ∷ [])) → s.tally.count ≡ r.tally.count
-    → IsReading o name r g × (are_all_blank g.lines ≡ true) → IsReading o name s (with_line g l) × (are_all_blank (g.lines ++ l ∷ []) ≡ false)
-reads-other o name r s g l b pushed count h =
-    let first = first-other l b in (
-      record { free = h.0.free; read = pushed g.lines h.0.read; count = count ∙ h.0.count; built = unbuilt-first g.lines l h.1 ∙ first.0 },
-      blank-first g.lines l h.1 ∙ first.1,
-    )
-
--- a line more, before which one isn't
-pub reads-later : (o : Opened) (name : List ℕ) (r s : BodyReader) (g : Filing) (l : LineText)
-    → ((lines : List LineText) → HasRead r lines → HasRead s (lines ++ l ∷ [])) → s.tally.count ≡ r.tally.count
-    → IsReading o name r g × (are_all_blank g.lines ≡ false) → IsReading o name s (with_line g l) × (are_all_blank (g.lines ++ l ∷ []) ≡ false)
-reads-later o name r s g l pushed count h = (
-  record { free = h.0.free; read = pushed g.lines h.0.read; count = count ∙ h.0.count; built = unbuilt-later g.lines l h.1 ∙ h.0.built },
-  blank-later g.lines l h.1,
-)
+    → IsReading o name r g → IsReading o name s (with_line g l)
+reads-on o name r s g l pushed count h = record { free = h.free; read = pushed g.lines h.read; count = count ∙ h.count }
 
 -- the name was found
 pub found-stands : (name : List ℕ) (files : List File) (place : Option ℕ) (b : Bool) → place ≡ position (is_named name) files → b ≡ is_some place → b ≡ true → Stands files name

@@ -1,7 +1,7 @@
--- What one body line more does to a file that is read, and what a body that was read has.
+-- Where the file of a name stands, and what a body that was read has.
 use Rattle.std.proofs.Common.{◌≡◌, ℕ, ◌+◌, ◌<◌, ◌≤◌, nat_lt, not, cond, List, [], ◌∷◌, ◌++◌, length, All, refl, sym, Option, None, Some, Bool, true, false, arith}
-use Rattle.etp_io.specs.Texts.{LineText, whole, too_long}
-use Rattle.std.specs.Prelude.{IsSome, position, slice_get, if◌then◌else◌}
+use Rattle.etp_io.specs.Texts.{LineText}
+use Rattle.std.specs.Prelude.{IsSome, position, slice_get}
 use Rattle.std.specs.List.{position_or_len}
 use Rattle.std.proofs.lemmas.List.Elements.{All-nil, All-cons, All-head, All-tail, All-weaker}
 use Rattle.std.proofs.Common.{get_or}
@@ -12,72 +12,14 @@ use Rattle.etp_laws.specs.Listing.{reflexive_law}
 use Rattle.etp_theory.specs.Trees.{Equation}
 use Rattle.etp_laws.proofs.Entries.{entry_after}
 use Rattle.etp_theory.specs.LawNumbers.{law_numbered, IsLaw}
-use Rattle.etp_words.specs.Words.{words_of, are_blank}
-use Rattle.etp_items.specs.Bodies.{FileBody, table, linear, matrix, proof, model}
+use Rattle.etp_items.specs.Bodies.{FileBody, table, linear, matrix, rules, proof, model}
 use Rattle.etp_items.specs.Reading.{IsBody, IsReadBody}
+use Rattle.etp_items.specs.Written.{IsWritableRule}
 use Rattle.etp_items.proofs.Writable.{body_writable}
 use Rattle.etp_items.proofs.ReadAgain.{listed_numbers}
 use Rattle.etp_check.specs.Checks.{IsListedBody, HasContent}
 use Rattle.etp_ledger.specs.Files.{File, is_named, body_named, Stands}
-use Rattle.etp_filing.specs.FileReplies.{names_unbuilt, begins_unbuilt, are_all_blank}
-
--- before the line all are blank: it alone tells
-pub unbuilt-first : (lines : List LineText) (l : LineText) → are_all_blank lines ≡ true → names_unbuilt (lines ++ l ∷ []) ≡ names_unbuilt (l ∷ [])
-unbuilt-first [] l h = refl
-unbuilt-first (too_long ∷ lines) l h = absurd (cc)
-unbuilt-first (whole line ∷ lines) l h = go (are_blank (words_of line)) refl h (unbuilt-first lines l)
-  where
-    go : (b : Bool) → are_blank (words_of line) ≡ b → (if b then are_all_blank lines else false) ≡ true
-        → (are_all_blank lines ≡ true → names_unbuilt (lines ++ l ∷ []) ≡ names_unbuilt (l ∷ []))
-        → names_unbuilt (whole line ∷ (lines ++ l ∷ [])) ≡ names_unbuilt (l ∷ [])
-    go true e h rec = rw e (rec h)
-    go false e h rec = absurd (cc)
-
--- a line that isn't blank stands before: nothing changes
-pub unbuilt-later : (lines : List LineText) (l : LineText) → are_all_blank lines ≡ false → names_unbuilt (lines ++ l ∷ []) ≡ names_unbuilt lines
-unbuilt-later [] l h = absurd (cc)
-unbuilt-later (too_long ∷ lines) l h = refl
-unbuilt-later (whole line ∷ lines) l h = go (are_blank (words_of line)) refl h (unbuilt-later lines l)
-  where
-    go : (b : Bool) → are_blank (words_of line) ≡ b → (if b then are_all_blank lines else false) ≡ false
-        → (are_all_blank lines ≡ false → names_unbuilt (lines ++ l ∷ []) ≡ names_unbuilt lines)
-        → names_unbuilt (whole line ∷ (lines ++ l ∷ [])) ≡ names_unbuilt (whole line ∷ lines)
-    go true e h rec = rw e (rec h)
-    go false e h rec = rw e refl
-
-pub blank-first : (lines : List LineText) (l : LineText) → are_all_blank lines ≡ true → are_all_blank (lines ++ l ∷ []) ≡ are_all_blank (l ∷ [])
-blank-first [] l h = refl
-blank-first (too_long ∷ lines) l h = absurd (cc)
-blank-first (whole line ∷ lines) l h = go (are_blank (words_of line)) refl h (blank-first lines l)
-  where
-    go : (b : Bool) → are_blank (words_of line) ≡ b → (if b then are_all_blank lines else false) ≡ true
-        → (are_all_blank lines ≡ true → are_all_blank (lines ++ l ∷ []) ≡ are_all_blank (l ∷ []))
-        → are_all_blank (whole line ∷ (lines ++ l ∷ [])) ≡ are_all_blank (l ∷ [])
-    go true e h rec = rw e (rec h)
-    go false e h rec = absurd (cc)
-
-pub blank-later : (lines : List LineText) (l : LineText) → are_all_blank lines ≡ false → are_all_blank (lines ++ l ∷ []) ≡ false
-blank-later [] l h = absurd (cc)
-blank-later (too_long ∷ lines) l h = refl
-blank-later (whole line ∷ lines) l h = go (are_blank (words_of line)) refl h (blank-later lines l)
-  where
-    go : (b : Bool) → are_blank (words_of line) ≡ b → (if b then are_all_blank lines else false) ≡ false
-        → (are_all_blank lines ≡ false → are_all_blank (lines ++ l ∷ []) ≡ false)
-        → are_all_blank (whole line ∷ (lines ++ l ∷ [])) ≡ false
-    go true e h rec = rw e (rec h)
-    go false e h rec = rw e refl
-
--- a body of an unbuilt kind stays one
-pub unbuilt-stays : (lines : List LineText) (l : LineText) → names_unbuilt lines ≡ true → names_unbuilt (lines ++ l ∷ []) ≡ true
-unbuilt-stays [] l h = absurd (cc)
-unbuilt-stays (too_long ∷ lines) l h = absurd (cc)
-unbuilt-stays (whole line ∷ lines) l h = go (are_blank (words_of line)) refl h (unbuilt-stays lines l)
-  where
-    go : (b : Bool) → are_blank (words_of line) ≡ b → (if b then names_unbuilt lines else begins_unbuilt (words_of line)) ≡ true
-        → (names_unbuilt lines ≡ true → names_unbuilt (lines ++ l ∷ []) ≡ true)
-        → names_unbuilt (whole line ∷ (lines ++ l ∷ [])) ≡ true
-    go true e h rec = rw e (rec h)
-    go false e h rec = rw e h
+use Rattle.etp_ledger.proofs.Lists.{all_at}
 
 len-none : (name : List ℕ) (files : List File) → body_named name files ≡ None → position_or_len (is_named name) files ≡ length files
 len-none name [] h = refl
@@ -127,6 +69,13 @@ body-content lines (model (table size entries) claims) h =
     let w = (body_writable lines (model (table size entries) claims) h).0 in (w.0, w.2)
 body-content lines (model (linear l) claims) h = tt
 body-content lines (model (matrix g) claims) h = (body_writable lines (model (matrix g) claims) h).0.shape
+body-content lines (model (rules w rs) claims) h =
+    let system = (body_writable lines (model (rules w rs) claims) h).0 in
+    record {
+      some = system.some;
+      few = system.few;
+      small = λ i r s. let one : IsWritableRule r = all_at IsWritableRule rs i r system.each s in (one.left_named, one.right_named);
+    }
 
 entry-there : (laws : List Equation) (n : ℕ) → 1 ≤ n → n ≤ length laws → IsSome (law_numbered laws n)
 entry-there laws n h k =

@@ -1,7 +1,6 @@
 -- The lines of a file's body within a session, and the reply to the file.
-use Rattle.std.specs.Prelude.{◌≡◌, ◌≢◌, ℕ, List, [], ◌∷◌, ◌++◌, Bool, true, false, codes, decimal, length, if◌then◌else◌, None, Some}
+use Rattle.std.specs.Prelude.{◌≡◌, ◌≢◌, ℕ, List, [], ◌∷◌, ◌++◌, Bool, true, false, codes, decimal, length, None, Some}
 use Rattle.std.specs.declared.option.Option.{Option}
-use Rattle.std.specs.List.{list_any}
 use Rattle.etp_io.specs.Texts.{LineText, whole, too_long}
 use Rattle.etp_proof.specs.Names.{IsName}
 use Rattle.etp_items.specs.Bodies.{FileBody, matrix, model}
@@ -14,7 +13,7 @@ use Rattle.etp_ledger.specs.Accepting.{IsAccepted}
 use Rattle.etp_ledger.specs.Refusals.{IsFileRefused}
 use Rattle.etp_ledger.specs.declared.refusal.LedgerRefusal.{LedgerRefusal}
 use Rattle.etp_ledger.specs.declared.refusal.LedgerRefusal.TheVariants.{NoMemory}
-use Rattle.etp_words.specs.Words.{words_of, is_word, are_blank}
+use Rattle.etp_words.specs.Words.{words_of, is_word}
 use Rattle.etp_print.specs.Texts.{Reply, silent, answered, refused, refused_file}
 use Rattle.etp_print.specs.RefusalTexts.{body_refusal, file_refusal}
 use Rattle.etp_desk.specs.States.{Opened, Filing, State, over, filing}
@@ -28,26 +27,6 @@ is_end _ = false
 abbrev pub closes_body : LineText → Bool
 closes_body too_long = false
 closes_body (whole line) = is_end (words_of line)
-
--- the first words of the bodies of kinds that aren't built yet
-abbrev pub unbuilt_kinds : List (List ℕ)
-unbuilt_kinds = codes "rules" ∷ []
-
-abbrev pub begins_unbuilt : List (List ℕ) → Bool
-begins_unbuilt [] = false
-begins_unbuilt (word ∷ words) = list_any (is_word word) unbuilt_kinds
-
--- the first line that isn't blank begins with such a word
-abbrev pub names_unbuilt : List LineText → Bool
-names_unbuilt [] = false
-names_unbuilt (too_long ∷ lines) = false
-names_unbuilt (whole line ∷ lines) = if are_blank (words_of line) then names_unbuilt lines else begins_unbuilt (words_of line)
-
--- all lines are blank
-abbrev pub are_all_blank : List LineText → Bool
-are_all_blank [] = true
-are_all_blank (too_long ∷ lines) = false
-are_all_blank (whole line ∷ lines) = if are_blank (words_of line) then are_all_blank lines else false
 
 -- the word is to be a name and is none, or there isn't one word
 abbrev pub HasNoName : Option (List ℕ) → Type 0
@@ -82,15 +61,13 @@ pub data FileReply (o : Opened) (f : Filing) (closed : Bool) (reply : Reply) (af
   no_name : HasNoName f.word → reply ≡ refused (codes "bad line") → after ≡ o.files → FileReply o f closed reply after
   name_taken : (name : List ℕ) → f.word ≡ Some name → IsName name → Stands o.files name
       → reply ≡ refused (codes "name taken " ++ name) → after ≡ o.files → FileReply o f closed reply after
-  not_built : (name : List ℕ) → HasFreeName o.files f.word name → names_unbuilt f.lines ≡ true
-      → reply ≡ refused_file name (codes "not built") → after ≡ o.files → FileReply o f closed reply after
-  no_body : (name : List ℕ) (r : BodyRefusal) → HasFreeName o.files f.word name → names_unbuilt f.lines ≡ false
+  no_body : (name : List ℕ) (r : BodyRefusal) → HasFreeName o.files f.word name
       → Refuses (length o.laws.equations) f.lines closed r
       → reply ≡ refused_file name (body_refusal r) → after ≡ o.files → FileReply o f closed reply after
-  not_accepted : (name : List ℕ) (body : FileBody) (r : LedgerRefusal) → HasFreeName o.files f.word name → names_unbuilt f.lines ≡ false
+  not_accepted : (name : List ℕ) (body : FileBody) (r : LedgerRefusal) → HasFreeName o.files f.word name
       → IsReadBody (length o.laws.equations) f.lines closed body → IsFileRefused o.laws o.files name body r → r ≢ NoMemory
       → reply ≡ refused_file name (file_refusal (vector_size body) r) → after ≡ o.files → FileReply o f closed reply after
-  accepted : (name : List ℕ) (body : FileBody) → HasFreeName o.files f.word name → names_unbuilt f.lines ≡ false
+  accepted : (name : List ℕ) (body : FileBody) → HasFreeName o.files f.word name
       → IsReadBody (length o.laws.equations) f.lines closed body → IsAccepted o.laws.equations o.files name body
       → reply ≡ answered (accepted_line name (fact_said body)) → after ≡ o.files ++ record { name = name; body = body } ∷ [] → FileReply o f closed reply after
 

@@ -1,20 +1,17 @@
 -- A file whose body is being read, as the program keeps it, and what the parts of its handling give.
-use Rattle.std.specs.Prelude.{◌≡◌, ℕ, List, [], ◌∷◌, ◌++◌, Bool, true, false, codes, decimal, length, if◌then◌else◌, Some}
-use Rattle.etp_io.specs.Texts.{LineText, whole, too_long}
+use Rattle.std.specs.Prelude.{◌≡◌, ℕ, List, [], ◌∷◌, ◌++◌, Bool, codes, decimal, length, Some}
+use Rattle.etp_io.specs.Texts.{LineText}
 use Rattle.etp_proof.specs.Names.{IsName}
-use Rattle.etp_words.specs.Words.{words_of, are_blank}
 use Rattle.etp_items.specs.Work.{HasRead}
 use Rattle.etp_items.specs.declared.reader.BodyReader.{BodyReader}
 use Rattle.etp_ledger.specs.Files.{File, Stands}
 use Rattle.etp_print.specs.Given.{GivesThen}
 use Rattle.etp_desk.specs.States as States
 use Rattle.etp_desk.specs.declared.opened.Opened.{Opened}
-use Rattle.etp_filing.specs.FileReplies.{FileReply, HasNoName, HasFreeName, names_unbuilt, are_all_blank, begins_unbuilt}
+use Rattle.etp_filing.specs.FileReplies.{FileReply, HasNoName, HasFreeName}
 use Rattle.etp_filing.specs.declared.filing.Filing.{Filing}
 use Rattle.etp_filing.specs.declared.filing.Pending.{Pending}
 use Rattle.etp_filing.specs.declared.filing.Pending.TheVariants as Kept
-use Rattle.etp_filing.specs.declared.filing.FirstLine.{FirstLine}
-use Rattle.etp_filing.specs.declared.filing.FirstLine.TheVariants.{Blank, NotBuilt, Other}
 use Rattle.etp_filing.specs.declared.accepting.Said.{Said}
 use Rattle.etp_filing.specs.declared.accepting.Said.TheVariants.{Implies, Refutes}
 
@@ -23,23 +20,15 @@ pub record IsReading (o : Opened) (name : List ℕ) (reader : BodyReader) (g : S
   pub free : HasFreeName o.ledger.files g.word name
   pub read : HasRead reader g.lines
   pub count : reader.tally.count ≡ length o.laws.equations
-  pub built : names_unbuilt g.lines ≡ false
 
 abbrev pub IsPending : Opened → Pending → States.Filing → Type 0
 IsPending o Kept.BadLine g = HasNoName g.word
 IsPending o (Kept.NameTaken name) g = (g.word ≡ Some name) × IsName name × Stands o.ledger.files name
-IsPending o (Kept.NotBuilt name) g = HasFreeName o.ledger.files g.word name × (names_unbuilt g.lines ≡ true)
-IsPending o (Kept.Blank name reader) g = IsReading o name reader g × (are_all_blank g.lines ≡ true)
-IsPending o (Kept.Begun name reader) g = IsReading o name reader g × (are_all_blank g.lines ≡ false)
+IsPending o (Kept.Reading name reader) g = IsReading o name reader g
 
 pub record IsFiling (o : Opened) (f : Filing) (g : States.Filing) : Type 0 where
   pub number_is : g.number ≡ f.number
   pub pending : IsPending o f.pending g
-
--- what a first line is by its first word
-abbrev pub first_line_of : LineText → FirstLine
-first_line_of too_long = Other
-first_line_of (whole line) = if are_blank (words_of line) then Blank else (if begins_unbuilt (words_of line) then NotBuilt else Other)
 
 -- the file with one body line more
 abbrev pub with_line : States.Filing → LineText → States.Filing

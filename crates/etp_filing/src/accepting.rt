@@ -1,5 +1,5 @@
 // The reply to a file whose body is over.
-ghost use Rattle.std.specs.Prelude.{◌≡◌, ◌≢◌, ◌≤◌, ◌++◌, [], Bool, false, true, length, IfOk, OnOk, codes, decimal};
+ghost use Rattle.std.specs.Prelude.{◌≡◌, ◌≢◌, ◌≤◌, ◌++◌, [], Bool, true, length, IfOk, OnOk, codes, decimal};
 ghost use Rattle.etp_items.specs.Bodies.{body_of};
 ghost use Rattle.etp_items.specs.Reading.{IsReadBody};
 ghost use Rattle.etp_check.specs.Checks.{fact_said, IsListedBody, HasContent};
@@ -7,7 +7,7 @@ ghost use Rattle.etp_print.specs.Texts.{reply_text, refused_file};
 ghost use Rattle.etp_print.specs.RefusalTexts.{body_refusal, file_refusal};
 ghost use Rattle.etp_desk.specs.States.{Filing as FilingOf};
 ghost use Rattle.etp_desk.specs.Desks.{opened_of, Agrees, Leaves};
-ghost use Rattle.etp_filing.specs.FileReplies.{HasFreeName, names_unbuilt, vector_size, said_text, accepted_with};
+ghost use Rattle.etp_filing.specs.FileReplies.{HasFreeName, vector_size, said_text, accepted_with};
 ghost use Rattle.etp_filing.specs.Filings.{words_from, IsReading, IsFiling, GivesFile};
 
 use crate::filing::{Filing, Pending};
@@ -45,6 +45,10 @@ fn laws_said(body: &Body) -> Said
             holds: matrix.claims.holds.len(),
             fails: matrix.claims.fails.len(),
         },
+        Body::Rules(rules) => Said::Refutes {
+            holds: rules.claims.holds.len(),
+            fails: rules.claims.fails.len(),
+        },
     }
 }
 
@@ -56,7 +60,7 @@ fn vector_size(body: &Body) -> u8
 {
     match body {
         Body::Matrix(matrix) => matrix.size,
-        Body::Proof(_) | Body::Table(_) | Body::Linear(_) => 0,
+        Body::Proof(_) | Body::Table(_) | Body::Linear(_) | Body::Rules(_) => 0,
     }
 }
 
@@ -142,11 +146,7 @@ pub fn answer_file(
     match filing.pending {
         Pending::BadLine => refuse(text, number, b"bad line"),
         Pending::NameTaken(name) => refuse_name(text, number, b"name taken ", name.as_slice()),
-        Pending::NotBuilt(name) => refuse_file(text, number, name.as_slice(), b"not built"),
-        Pending::Blank(name, reader) => {
-            answer_body(alloc, text, opened, number, name, reader, closed)
-        }
-        Pending::Begun(name, reader) => {
+        Pending::Reading(name, reader) => {
             answer_body(alloc, text, opened, number, name, reader, closed)
         }
     }
@@ -186,7 +186,7 @@ fn accept_file(
     requires agrees { Agrees opened.old }
     requires listed { IsListedBody opened.old.laws.equations (body_of body) }
     requires content { HasContent (body_of body) }
-    ensures { IfOk result (λ refusal. (closed : Bool) (g : FilingOf) → g.number ≡ number → HasFreeName opened.old.ledger.files g.word name → names_unbuilt g.lines ≡ false
+    ensures { IfOk result (λ refusal. (closed : Bool) (g : FilingOf) → g.number ≡ number → HasFreeName opened.old.ledger.files g.word name
         → IsReadBody (length opened.old.laws.equations) g.lines closed (body_of body) → GivesFile (opened_of opened.old) g closed text.new refusal (Leaves opened.old opened.new)) }
 {
     if opened.ledger.count() == u32::MAX {

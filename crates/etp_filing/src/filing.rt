@@ -1,19 +1,17 @@
 // The lines of a file's body.
-ghost use Rattle.std.specs.Prelude.{◌≡◌, ◌≤◌, ◌∷◌, [], ℕ, List, Some, Bool, true, false, length, IfOk, IfSome, MatchBool};
+ghost use Rattle.std.specs.Prelude.{◌≡◌, ◌≤◌, [], ℕ, List, Some, length, IfOk, IfSome, MatchBool};
 ghost use Rattle.std.specs.Option.{option_copied};
-ghost use Rattle.std.specs.List.{list_any};
-ghost use Rattle.etp_words.specs.Words.{is_word};
 ghost use Rattle.etp_reading.specs.Reading.{given_text};
 ghost use Rattle.etp_desk.specs.States.{Filing as FilingOf};
 ghost use Rattle.etp_desk.specs.Desks.{Agrees};
-ghost use Rattle.etp_filing.specs.FileReplies.{closes_body, unbuilt_kinds, HasFreeName};
-ghost use Rattle.etp_filing.specs.Filings.{first_line_of, with_line, loading, IsPending, IsFiling};
+ghost use Rattle.etp_filing.specs.FileReplies.{closes_body, HasFreeName};
+ghost use Rattle.etp_filing.specs.Filings.{with_line, loading, IsPending, IsFiling};
 
 use etp_command::only_word;
 use etp_desk::Opened;
 use etp_items::BodyReader;
 use etp_ledger::Name;
-use etp_words::{is, is_comment, next_word};
+use etp_words::is;
 use std::alloc::{AllocError, Global};
 
 // What becomes of a file whose body is being read: it is refused, whatever its lines say, or read.
@@ -23,12 +21,8 @@ pub(crate) enum Pending {
     BadLine,
     // Its name stands.
     NameTaken(Name),
-    // It is of a kind that isn't built.
-    NotBuilt(Name),
-    // No line that says something was read.
-    Blank(Name, BodyReader),
-    // Its first lines were read.
-    Begun(Name, BodyReader),
+    // Its name is free, and its lines are read.
+    Reading(Name, BodyReader),
 }
 
 /// A file whose body is being read, under the number of its line.
@@ -36,41 +30,6 @@ pub(crate) enum Pending {
 pub struct Filing {
     pub(crate) number: u64,
     pub(crate) pending: Pending,
-}
-
-/// What the first line of a body is by its first word.
-#[derive(Clone, Copy, PartialEq, Eq)]
-pub(crate) enum FirstLine {
-    /// The line is blank.
-    Blank,
-    /// The word of a kind that isn't built.
-    NotBuilt,
-    /// Anything else, and a line too long to be looked at.
-    Other,
-}
-
-fn first_line(line: Option<&[u8]>) -> FirstLine
-    ensures { result ≡ first_line_of (given_text line.entry) }
-{
-    let Some(line) = line else {
-        return FirstLine::Other;
-    };
-    let Some((word, _)) = next_word(line) else {
-        return FirstLine::Blank;
-    };
-    if is_comment(word) {
-        return FirstLine::Blank;
-    }
-    if is_unbuilt_kind(word) {
-        return FirstLine::NotBuilt;
-    }
-    FirstLine::Other
-}
-
-fn is_unbuilt_kind(word: &[u8]) -> bool
-    ensures { result ≡ list_any (is_word word.now) unbuilt_kinds }
-{
-    is(word, "rules")
 }
 
 /// Whether the line closes a body.
@@ -114,7 +73,7 @@ fn pend(alloc: Global, opened: &Opened, word: Option<&[u8]>) -> Result<Pending, 
         return Ok(Pending::NameTaken(name));
     }
     let reader = BodyReader::start(alloc, opened.laws.count())?;
-    Ok(Pending::Blank(name, reader))
+    Ok(Pending::Reading(name, reader))
 }
 
 /// Whether the name of a file that was opened just now is a name and free, so that its body is read.
@@ -124,7 +83,7 @@ pub fn has_free_name(filing: &Filing) -> bool
 {
     match filing.pending {
         Pending::BadLine | Pending::NameTaken(_) => false,
-        _ => true,
+        Pending::Reading(_, _) => true,
     }
 }
 
@@ -146,33 +105,9 @@ fn with_line(pending: Pending, line: Option<&[u8]>) -> Result<Pending, AllocErro
     match pending {
         Pending::BadLine => Ok(Pending::BadLine),
         Pending::NameTaken(name) => Ok(Pending::NameTaken(name)),
-        Pending::NotBuilt(name) => Ok(Pending::NotBuilt(name)),
-        Pending::Blank(name, reader) => take_first_line(name, reader, line),
-        Pending::Begun(name, mut reader) => {
+        Pending::Reading(name, mut reader) => {
             reader.push(line)?;
-            Ok(Pending::Begun(name, reader))
-        }
-    }
-}
-
-// Takes a line before which all are blank.
-fn take_first_line(
-    name: Name,
-    mut reader: BodyReader,
-    line: Option<&[u8]>,
-) -> Result<Pending, AllocError>
-    requires { IfSome line (λ bytes. length bytes.now ≤ 4096) }
-    ensures { IfOk result (λ next. (o : Opened) (g : FilingOf) → IsPending o (Pending.Blank name reader) g → IsPending o next (with_line g (given_text line.entry))) }
-{
-    match first_line(line) {
-        FirstLine::NotBuilt => Ok(Pending::NotBuilt(name)),
-        FirstLine::Blank => {
-            reader.push(line)?;
-            Ok(Pending::Blank(name, reader))
-        }
-        FirstLine::Other => {
-            reader.push(line)?;
-            Ok(Pending::Begun(name, reader))
+            Ok(Pending::Reading(name, reader))
         }
     }
 }

@@ -1,33 +1,30 @@
 -- The printed ledger, line by line, gives the files again.
-use Rattle.std.proofs.Common.{◌≡◌, ◌⊎◌, inl, inr, ℕ, ◌+◌, List, [], ◌∷◌, ◌++◌, All, Bool, true, false, ◌||◌, length, None, Some, codes, refl, sym, ap, subst, ◌∙◌, append_assoc, append-nil, arith}
+use Rattle.std.proofs.Common.{◌≡◌, ◌⊎◌, inl, inr, ℕ, ◌+◌, List, [], ◌∷◌, ◌++◌, All, true, false, ◌||◌, length, Some, codes, refl, sym, ap, subst, ◌∙◌, append_assoc, append-nil, arith}
 use Rattle.std.specs.List.{AllByRecursion}
 use Rattle.std.proofs.lemmas.List.Elements.{recursion_from_All}
 use Rattle.etp_io.specs.Texts.{LineText, whole, lines_of}
 use Rattle.etp_words.specs.Words.{words_of}
-use Rattle.etp_theory.specs.Trees.{Equation}
 use Rattle.etp_laws.specs.Listing.{IsTheList}
 use Rattle.etp_proof.specs.Names.{IsName}
 use Rattle.etp_lines.specs.BodyLines.{opening}
-use Rattle.etp_items.specs.Bodies.{FileBody}
-use Rattle.etp_items.specs.Reading.{IsReadBody}
 use Rattle.etp_items.specs.Written.{written_body, HasFewLines}
 use Rattle.etp_items.proofs.ReadBack.{words_front, words_last, name_word}
 use Rattle.etp_check.specs.Checks.{fact_said}
 use Rattle.etp_check.proofs.WrittenBack.{valid_body_reads}
 use Rattle.etp_ledger.specs.Files.{File, cited_goals}
 use Rattle.etp_ledger.specs.Accepting.{IsAccepted, AreAcceptedAfter}
-use Rattle.etp_command.specs.Requests.{order, file, asked, request_of_words}
+use Rattle.etp_command.specs.Requests.{file, asked, request_of_words}
 use Rattle.etp_print.specs.Texts.{Reply, silent, answered, reply_text, is_refusal}
 use Rattle.etp_show.specs.Printed.{printed, printed_ledger}
-use Rattle.etp_desk.specs.States.{Opened, Opens, Filing, State, unopened, over, filing, stopped}
-use Rattle.etp_filing.specs.FileReplies.{FileReply, accepted, BodyReply, goes_on, closes, closes_body, names_unbuilt, accepted_line}
+use Rattle.etp_desk.specs.States.{Opened, Opens, Filing, State, unopened, over, filing}
+use Rattle.etp_filing.specs.FileReplies.{accepted, goes_on, closes, closes_body, accepted_line}
 use Rattle.etp_reply.specs.Shelves.{KnownShelf}
 use Rattle.etp_reply.specs.Replies.{OpenReply, FirstReply, Replies, answered_line}
 use Rattle.etp_session.specs.Protocols.{ledger_protocol}
 use Rattle.etp_session.specs.Sessions.{items_from, items_of, Session}
 use Rattle.etp_printed.specs.Printed.{WasRead, IsKept, HasState, GivesAgain}
 use Rattle.etp_printed.proofs.Kept.{with_files}
-use Rattle.etp_printed.proofs.PrintedLines.{line_then, file_line, printed_lines, body_goes_on, built}
+use Rattle.etp_printed.proofs.PrintedLines.{line_then, file_line, printed_lines, body_goes_on}
 
 module _ (s : KnownShelf) where
   -- the lines lead from one state to another, without a refusal
@@ -94,7 +91,7 @@ module _ (s : KnownShelf) where
               answered (accepted_line f.name (fact_said f.body)),
               over (with_files o (o.files ++ f ∷ [])),
               closes (o.files ++ f ∷ []) refl
-                  (accepted f.name f.body (record { word_is = refl; is_name = right.spelled; free = right.free }) (built (length o.laws.equations) body true f.body again) again right refl refl) refl,
+                  (accepted f.name f.body (record { word_is = refl; is_name = right.spelled; free = right.free }) again right refl refl) refl,
               refl,
               more,
             ))),

@@ -1,11 +1,10 @@
 -- What stands in a session is kept by each reply.
-use Rattle.std.proofs.Common.{◌≡◌, ◌⊎◌, inl, inr, ℕ, List, [], ◌∷◌, ◌++◌, All, Bool, true, false, cond, if◌then◌else◌, length, nat_eq, codes, Option, None, Some, refl, sym, ap, subst, ◌∙◌}
+use Rattle.std.proofs.Common.{◌≡◌, ◌⊎◌, inl, inr, ℕ, List, [], ◌∷◌, All, Bool, true, false, cond, if◌then◌else◌, length, nat_eq, codes, Option, None, Some, refl, sym, subst}
 use Rattle.std.specs.List.{AllByRecursion}
 use Rattle.std.proofs.lemmas.List.Elements.{All-nil, All-cons, All-append, recursion_from_All, All-from_recursion}
 use Rattle.etp_io.specs.Texts.{LineText, whole, too_long}
 use Rattle.etp_words.specs.Words.{words_of, behind_first, is_word, is_comment}
 use Rattle.etp_laws.specs.Listing.{IsTheList}
-use Rattle.etp_items.specs.Bodies.{FileBody}
 use Rattle.etp_items.specs.Reading.{IsReadBody}
 use Rattle.etp_ledger.specs.Files.{File, is_named}
 use Rattle.etp_ledger.specs.Withdrawing.{without}
@@ -15,7 +14,7 @@ use Rattle.etp_ledger.proofs.Withdrawn.{withdrawn_accepted}
 use Rattle.etp_command.specs.Requests.{Query, query_of, Request, blank, long, bad, order, file, load, withdraw, query, order_request, load_request, withdraw_request, query_request, only_word, only_number, request_of_words, asked}
 use Rattle.etp_print.specs.Texts.{Reply}
 use Rattle.etp_desk.specs.States.{Opened, Opens, Filing, State, unopened, over, filing, stopped}
-use Rattle.etp_filing.specs.FileReplies.{FileReply, no_name, name_taken, not_built, no_body, not_accepted, accepted, BodyReply, goes_on, closes}
+use Rattle.etp_filing.specs.FileReplies.{FileReply, no_name, name_taken, no_body, not_accepted, accepted, BodyReply, goes_on, closes}
 use Rattle.etp_filing.specs.Filings.{loading}
 use Rattle.etp_filing.specs.Withdrawals as Withdrawals
 use Rattle.etp_filing.specs.Withdrawals.{WithdrawReply}
@@ -115,10 +114,9 @@ same_files o after e k = subst (λ (fs : List File). IsKept (with_files o fs)) (
 file_kept : (o : Opened) (f : Filing) (closed : Bool) (reply : Reply) (after : List File) → IsKept o → FileReply o f closed reply after → IsKept (with_files o after)
 file_kept o f closed reply after k (no_name h e a) = same_files o after a k
 file_kept o f closed reply after k (name_taken name w n s e a) = same_files o after a k
-file_kept o f closed reply after k (not_built name n u e a) = same_files o after a k
-file_kept o f closed reply after k (no_body name r n b h e a) = same_files o after a k
-file_kept o f closed reply after k (not_accepted name body r n b h i j e a) = same_files o after a k
-file_kept o f closed reply after k (accepted name body n b h i e a) =
+file_kept o f closed reply after k (no_body name r n h e a) = same_files o after a k
+file_kept o f closed reply after k (not_accepted name body r n h i j e a) = same_files o after a k
+file_kept o f closed reply after k (accepted name body n h i e a) =
     let one : WasRead (length o.laws.equations) (record { name = name; body = body }) =
     record { lines = f.lines; read = subst (λ c. IsReadBody (length o.laws.equations) f.lines c body) h.is_closed h } in
     subst (λ (fs : List File). IsKept (with_files o fs)) (sym a) (record {

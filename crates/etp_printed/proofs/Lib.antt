@@ -1,4 +1,3 @@
-pub mod FirstWords
 pub mod Kept
 pub mod PrintedLines
 pub mod Again

@@ -1,25 +1,25 @@
 -- The lines of the printed ledger.
-use Rattle.std.proofs.Common.{◌≡◌, ◌⊎◌, inl, inr, ℕ, ◌≤◌, List, [], ◌∷◌, ◌++◌, Bool, true, false, ◌||◌, if◌then◌else◌, length, map, None, Some, codes, nat_eq, refl, sym, ap, ap₂, subst, ◌∙◌, append_assoc, length-append, arith, eqb-true}
-use Rattle.std.specs.List.{list_all, list_any, AllByRecursion}
+use Rattle.std.proofs.Common.{◌≡◌, inl, inr, ℕ, ◌≤◌, List, [], ◌∷◌, ◌++◌, Bool, true, false, length, map, codes, nat_eq, refl, sym, ap, ap₂, ◌∙◌, append_assoc, length-append, arith, eqb-true}
+use Rattle.std.specs.List.{list_all, AllByRecursion}
 use Rattle.etp_io.specs.Texts.{LineText, whole, too_long, lines_of, to_last_newline}
 use Rattle.etp_io.proofs.LineLemmas.{to_last_newline-cut}
 use Rattle.etp_io.proofs.CallLemmas.{lines_of-append}
-use Rattle.etp_words.specs.Words.{words_of, is_word, are_blank, is_comment, IsBlankLine}
+use Rattle.etp_words.specs.Words.{words_of, is_word, are_blank}
 use Rattle.etp_proof.specs.Names.{IsName}
 use Rattle.etp_reading.specs.Reading.{Reads}
 use Rattle.etp_lines.specs.TableLines as Tables
 use Rattle.etp_lines.specs.TableLines.{row}
-use Rattle.etp_lines.specs.BodyLines.{Kind, kind_named, Line, Place, opening, Says, bodies}
-use Rattle.etp_lines.proofs.OneLine.{FirstWord}
-use Rattle.etp_printed.proofs.FirstWords.{first_word}
-use Rattle.etp_items.specs.Bodies.{FileBody, Model, table, linear, matrix, proof, model}
-use Rattle.etp_items.specs.Reading.{IsReadBody, proof_lines}
-use Rattle.etp_items.specs.Written.{written_by, written_body, written_proof_line, version_for, model_text, written_table_line, cut, written_linear, written_matrix_line, matrix_lines, written_claim_line, claim_lines}
+use Rattle.etp_lines.specs.BodyLines.{Line, Place, bodies}
+use Rattle.etp_lines.specs.RulesLines.{system_lines}
+use Rattle.etp_lines.proofs.OneLine.{none_named}
+use Rattle.etp_items.specs.Bodies.{FileBody, Model, table, linear, matrix, rules, proof, model}
+use Rattle.etp_items.specs.Reading.{proof_lines}
+use Rattle.etp_items.specs.Written.{written_by, written_body, written_proof_line, version_for, model_text, written_table_line, cut, written_linear, written_matrix_line, matrix_lines, written_rules_line, written_claim_line, claim_lines}
 use Rattle.etp_items.proofs.ReadBack.{both, is_text, joined, graph_text, name_word}
 use Rattle.etp_items.proofs.TextLines.{lines_back}
 use Rattle.etp_ledger.specs.Files.{File}
-use Rattle.etp_show.specs.Printed.{printed_file, printed}
-use Rattle.etp_filing.specs.FileReplies.{is_end, closes_body, unbuilt_kinds, begins_unbuilt, names_unbuilt}
+use Rattle.etp_show.specs.Printed.{printed}
+use Rattle.etp_filing.specs.FileReplies.{is_end, closes_body}
 use Rattle.etp_session.proofs.Parts.{to_last_newline-both}
 
 -- a plain line and what follows
@@ -39,6 +39,7 @@ closed_model : (m : Model) → to_last_newline (model_text m) ≡ model_text m
 closed_model (table size entries) = closed_lines written_table_line (Tables.table size ∷ map row (cut size entries))
 closed_model (linear l) = closed_lines written_linear (l ∷ [])
 closed_model (matrix g) = closed_lines written_matrix_line (matrix_lines g)
+closed_model (rules w rs) = closed_lines written_rules_line (system_lines w rs)
 
 closed_body : (b : FileBody) → to_last_newline (written_body b) ≡ written_body b
 closed_body (proof p) = closed_lines written_proof_line (proof_lines (version_for p) p)
@@ -78,51 +79,22 @@ word_is (a ∷ x) (b ∷ y) h =
     ap₂ (λ (u : ℕ) (v : List ℕ). u ∷ v) (eqb-true a b s.0) (word_is x y s.1)
 
 -- no line of a body is `end`
-comment_goes_on : (words : List (List ℕ)) → are_blank words ≡ true → is_end words ≡ false
-comment_goes_on [] h = refl
-comment_goes_on (word ∷ []) h = by (is_word word (codes "end")) refl
+is_not_end : (words : List (List ℕ)) → (words ≡ codes "end" ∷ [] → ⊥) → is_end words ≡ false
+is_not_end [] h = refl
+is_not_end (word ∷ []) h = by (is_word word (codes "end")) refl
   where
     by : (b : Bool) → is_word word (codes "end") ≡ b → b ≡ false
     by false e = refl
-    by true e = let bad : is_comment (codes "end") ≡ true = sym (ap is_comment (word_is word (codes "end") e)) ∙ h in absurd (cc)
-comment_goes_on (word ∷ next ∷ words) h = refl
+    by true e = absurd (h (ap (λ (w : List ℕ). w ∷ []) (word_is word (codes "end") e)))
+is_not_end (word ∷ next ∷ words) h = refl
 
-named_goes_on : (words : List (List ℕ)) (word : List ℕ) (more : List (List ℕ)) (k : Kind) → words ≡ word ∷ more → kind_named word ≡ Some k → is_end words ≡ false
-named_goes_on words word [] k e n = ap is_end e ∙ by (is_word word (codes "end")) refl
-  where
-    by : (b : Bool) → is_word word (codes "end") ≡ b → b ≡ false
-    by false f = refl
-    by true f = let bad : kind_named (codes "end") ≡ Some k = sym (ap kind_named (word_is word (codes "end") f)) ∙ n in absurd (cc)
-named_goes_on words word (next ∷ more) k e n = ap is_end e
+blank_goes_on : (words : List (List ℕ)) → are_blank words ≡ true → words ≡ codes "end" ∷ [] → ⊥
+blank_goes_on words h e = let bad : false ≡ true = sym (ap are_blank e) ∙ h in cc
 
 pub body_goes_on : (ls : List LineText) (p q : Place) (saids : List Line) → Reads bodies p ls saids q → AllByRecursion (λ l. closes_body l ≡ false) ls
 body_goes_on [] p q saids h = tt
 body_goes_on (too_long ∷ ls) p q saids h = absurd h
-body_goes_on (whole line ∷ ls) p q saids (inl h) = (comment_goes_on (words_of line) h.0, body_goes_on ls p q saids h.1)
+body_goes_on (whole line ∷ ls) p q saids (inl h) =
+    (is_not_end (words_of line) (blank_goes_on (words_of line) h.0), body_goes_on ls p q saids h.1)
 body_goes_on (whole line ∷ ls) p q saids (inr (said, next, more, says, a, h, e)) =
-    let f = first_word line said says in
-    (named_goes_on (words_of line) f.word f.more said.0 f.words f.named, body_goes_on ls next q more h)
-
--- and none begins a kind of file that isn't built
-unnamed : (word : List ℕ) (k : Kind) → kind_named word ≡ Some k → list_any (is_word word) unbuilt_kinds ≡ false
-unnamed word k n = by (is_word word (codes "rules")) refl
-  where
-    by : (b : Bool) → is_word word (codes "rules") ≡ b → (b || false) ≡ false
-    by false f = refl
-    by true f = let bad : kind_named (codes "rules") ≡ Some k = sym (ap kind_named (word_is word (codes "rules") f)) ∙ n in absurd (cc)
-
-lines_built : (ls : List LineText) (p q : Place) (saids : List Line) → Reads bodies p ls saids q → names_unbuilt ls ≡ false
-lines_built [] p q saids h = refl
-lines_built (too_long ∷ ls) p q saids h = absurd h
-lines_built (whole line ∷ ls) p q saids (inl h) =
-    ap (λ b. if b then names_unbuilt ls else begins_unbuilt (words_of line)) h.0 ∙ lines_built ls p q saids h.1
-lines_built (whole line ∷ ls) p q saids (inr (said, next, more, says, a, h, e)) =
-    let f = first_word line said says in
-    by (are_blank (words_of line)) (ap begins_unbuilt f.words ∙ unnamed f.word said.0 f.named) (lines_built ls next q more h)
-  where
-    by : (b : Bool) → begins_unbuilt (words_of line) ≡ false → names_unbuilt ls ≡ false → (if b then names_unbuilt ls else begins_unbuilt (words_of line)) ≡ false
-    by true k rest = rest
-    by false k rest = k
-
-pub built : (count : ℕ) (lines : List LineText) (closed : Bool) (body : FileBody) → IsReadBody count lines closed body → names_unbuilt lines ≡ false
-built count lines closed body h = lines_built lines opening h.is_body.are_whole.come h.is_body.saids h.is_body.are_whole.reads
+    (is_not_end (words_of line) (λ w. none_named line (codes "end") [] w refl said says), body_goes_on ls next q more h)

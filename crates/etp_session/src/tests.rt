@@ -250,7 +250,7 @@ fn files_are_loaded_from_the_shelf(rt: HostRuntime) {
         ),
         plain(
             "load cut\nload closed\nload empty\nload t\n",
-            "accepted cut: implies 4 3\nrefused 2: closed: bad line 4\nrefused 3: empty: unfinished at 1\nrefused 4: t: not built\n",
+            "accepted cut: implies 4 3\nrefused 2: closed: bad line 4\nrefused 3: empty: unfinished at 1\nrefused 4: t: bad line 2\n",
             1,
         ),
         plain(

@@ -34,7 +34,6 @@ fn wrong_proofs_are_refused_for_their_first_offence(rt: HostRuntime) {
         ("proof 4 3\nlemma x * y", "goal differs found trivial"),
         ("# c\nproof 4 3\nlemma x", "goal differs found 1"),
         ("proof2 4 3\ncite zz\nlemma x", "cite missing 1"),
-        ("\nrules 1 1 1", "not built"),
     ];
     for (body, why) in cases {
         assert!(rt;
@@ -68,6 +67,49 @@ fn wrong_linear_magmas_are_refused_for_their_first_offence(rt: HostRuntime) {
         assert!(rt;
             is_refused(rt.alloc(), body, why).expect(&rt, "memory"),
             "{body}"
+        );
+    }
+}
+
+#[test]
+fn wrong_rule_systems_are_refused_for_their_first_offence(rt: HostRuntime) {
+    let claims = "holds 168\nfails 3 4 43 4512";
+    let unjoinable = "rules\nweight 1 1 1\nrule (x * y) * (y * z) -> y";
+    let wide =
+        "rules\nweight 1 13 1\nrule (x*x)*((x*x)*((x*x)*((x*x)*((x*x)*((x*x)*y))))) -> y\nrule (x*x)*((x*x)*y) -> (((((((((((y*y)*y)*y)*y)*y)*y)*y)*y)*y)*y)*y)*y";
+    let idempotent = "rules\nweight 1 1 1\nrule x * x -> x";
+    let cases = [
+        ("rules\nweight 1 1 1", "holds 1", "bad line 3"),
+        ("rules\nweight 0 1 1\nrule x * x -> x", claims, "weight a"),
+        ("rules\nweight 1 1 256\nrule x * x -> x", claims, "weight c"),
+        (
+            "rules\nweight 1 1 1\nrule x * y -> y * x",
+            claims,
+            "not decreasing rule 1 constant",
+        ),
+        (
+            "rules\nweight 1 1 1\nrule x * x -> y",
+            claims,
+            "not decreasing rule 1 variable y",
+        ),
+        (
+            unjoinable,
+            claims,
+            "unjoinable 1 l 1: x ◇ y and x ◇ ((x ◇ y) ◇ z)",
+        ),
+        (wide, claims, "term limit pair 1 . 2"),
+        (
+            idempotent,
+            "holds 3 43\nfails 4",
+            "holds fails law 43: x ◇ y and y ◇ x",
+        ),
+        (idempotent, "holds 1\nfails 4 3", "fails holds law 3: x"),
+    ];
+    for (system, claims, why) in cases {
+        let body = format!(in rt.alloc(); "{system}\n{claims}").expect(&rt, "memory");
+        assert!(rt;
+            is_refused(rt.alloc(), body.as_str(), why).expect(&rt, "memory"),
+            "{system}"
         );
     }
 }
@@ -180,4 +222,13 @@ fn the_profile_of_a_table_is_written(rt: HostRuntime) {
     let front =
         "accepted t1: refutes 1 1\nprofile t1 1214: 1 3 4 8 9 10 11 12 23 24 25 26 27 38 42 47 ";
     assert!(rt; sink.taken().starts_with(front.as_bytes()));
+}
+
+#[test]
+fn a_rule_system_refutes(rt: HostRuntime) {
+    let input =
+        "file as\nrules\nweight 2 1 1\nrule (x * y) * z -> x * (y * z)\nholds 4512\nfails 3 43\nend\nwhy 4512 43\nfiles\n";
+    let output =
+        "accepted as: refutes 1 2\n4512 43 refuted\nholds 4512 fails 43 as\nfails 43 left x ◇ y right y ◇ x\nas rules 1 2\nfiles 1\n";
+    assert!(rt; is_right(rt.alloc(), &plain(input, output, 0)).expect(&rt, "memory"));
 }

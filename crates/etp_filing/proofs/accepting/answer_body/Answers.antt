@@ -22,9 +22,9 @@ accept_file-requires-clause-content c =
 pub returns-in-Err : goal.returns-in-Err
 returns-in-Err c = IfOk-then c.refuse_body.result _ _ (λ refusal h g n is.
     refuses-file c.args.opened.now g c.args.closed c.args.number c.refuse_body.new.text (c.args.name ++ codes ": " ++ body_refusal c.in-Err.refusal) refusal c.requires.agrees n
-    (no_body c.args.name c.in-Err.refusal is.free is.built (rw is.count at (c.in-Err.ensures.err g.lines is.read)) refl refl) (rw c.as_slice.ensures.value at h)) c.refuse_body.ensures
+    (no_body c.args.name c.in-Err.refusal is.free (rw is.count at (c.in-Err.ensures.err g.lines is.read)) refl refl) (rw c.as_slice.ensures.value at h)) c.refuse_body.ensures
 
 pub returns-in-Ok : goal.returns-in-Ok
 returns-in-Ok c = IfOk-then c.accept_file.result _ _ (λ refusal h g n is.
-    h c.args.closed g n is.free is.built
+    h c.args.closed g n is.free
     (subst (λ (k : ℕ). IsReadBody k g.lines c.args.closed (body_of c.in-Ok.body)) is.count (c.in-Ok.ensures.ok g.lines is.read))) c.accept_file.ensures

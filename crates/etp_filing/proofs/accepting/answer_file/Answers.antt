@@ -1,6 +1,6 @@
 use Rattle.std.proofs.Common.{refl}
 use Rattle.std.specs.Prelude.{codes, ◌++◌}
-use Rattle.etp_filing.specs.FileReplies.{no_name, name_taken, not_built}
+use Rattle.etp_filing.specs.FileReplies.{no_name, name_taken}
 use Rattle.etp_print.proofs.GivenLemmas.{IfOk-then}
 use Rattle.etp_filing.proofs.FileAnswers.{refuses-file}
 use Rattle.etp_filing.proofs.accepting.answer_file.Goals as goal
@@ -15,9 +15,3 @@ returns-in-NameTaken c = IfOk-then c.refuse_name.result _ _ (λ refusal h g is.
     let known = rw c.in-NameTaken.is at is.pending in
     refuses-file c.args.opened.now g c.args.closed c.args.filing.number c.refuse_name.new.text (codes "name taken " ++ c.in-NameTaken.name) refusal c.requires.agrees is.number_is
     (name_taken c.in-NameTaken.name known.0 known.1 known.2 refl refl) (rw (c.as_slice.ensures.value, c.in-NameTaken.name-is) at h)) c.refuse_name.ensures
-
-pub returns-in-NotBuilt : goal.returns-in-NotBuilt
-returns-in-NotBuilt c = IfOk-then c.refuse_file.result _ _ (λ refusal h g is.
-    let known = rw c.in-NotBuilt.is at is.pending in
-    refuses-file c.args.opened.now g c.args.closed c.args.filing.number c.refuse_file.new.text (c.in-NotBuilt.name ++ codes ": " ++ codes "not built") refusal c.requires.agrees is.number_is
-    (not_built c.in-NotBuilt.name known.0 known.1 refl refl) (rw (c.as_slice-in-NotBuilt.ensures.value, c.in-NotBuilt.name-is) at h)) c.refuse_file.ensures

@@ -8,8 +8,8 @@ use Rattle.etp_print.proofs.GivenLemmas.{IfOk-then}
 use Rattle.etp_desk.proofs.Opening.{leaves}
 use Rattle.etp_filing.proofs.withdrawal.take_out.Goals as goal
 
-pub returns-in_ok-append_withdrawn-in-Ok : goal.returns-in_ok-append_withdrawn-in-Ok
-returns-in_ok-append_withdrawn-in-Ok c = record {
+pub returns-in-Ok : goal.returns-in-Ok
+returns-in-Ok c = record {
   reply = answered (codes "withdrawn " ++ c.args.word.now ++ 10 ∷ []);
   files = c.withdraw.new.self.files;
   is = withdrawn c.requires.name c.in-Ok.ensures.ok refl;
