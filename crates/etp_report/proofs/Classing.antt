@@ -1,21 +1,23 @@
 -- Classes of equivalent laws, by what is reached.
 use Rattle.std.proofs.Common.{◌≡◌, ℕ, zero, suc, ◌+◌, ◌-◌, ◌<◌, ◌≤◌, ◌&&◌, not, nat_eq, nat_lt, Bool, true, false, if◌then◌else◌, refl, sym, ◌∙◌, ap, subst, arith, inl, inr, List, [], ◌∷◌, ◌++◌, length, get_or, take, Option, Some, None, All, append-nil, length-take-le, take_all}
-use Rattle.std.specs.Prelude.{filter, IsSome, is_some}
+use Rattle.std.specs.Prelude.{filter, is_some, unwrap_or}
 use Rattle.std.specs.List.{list_any}
 use Rattle.std.proofs.lemmas.Bool.{cases_eq, cases_Bool, eqb-true, eq-eqb, ne_eqb, both_ways, false≢true, and_parts, and_from, le-ltb, lt-ltb, false_from_ne_true}
-use Rattle.std.proofs.lemmas.List.Elements.{All-filter, All-get_or, All-same, filter_more}
+use Rattle.std.proofs.lemmas.List.{get_or-map}
+use Rattle.std.proofs.lemmas.List.Elements.{All-get_or, All-same, filter_more, filter_passes}
 use Rattle.std.proofs.lemmas.List.Filters.{length-filter_both}
 use Rattle.std.proofs.lemmas.List.Folds.{list_any_at, list_any-append}
+use Rattle.etp_bits.specs.Bits.{Bits, bit}
 use Rattle.etp_bits.specs.Counts.{count_below}
 use Rattle.etp_theory.specs.LawNumbers.{IsLaw}
-use Rattle.etp_closure.specs.Closures.{Known, IsKept, slot_of, is_reached, is_covered, bit_by_slots}
+use Rattle.etp_closure.specs.Closures.{Known, slot_of, is_reached, is_covered}
 use Rattle.etp_closure.specs.Answers.{answer_of}
 use Rattle.etp_closure.specs.declared.facts.Answer.TheVariants.{Implied}
 use Rattle.etp_report.specs.Pairs.{is_same}
 use Rattle.etp_report.specs.Reports.{laws_to, are_equivalent, class_with, is_least}
-use Rattle.etp_report.specs.Kept.{kept_laws, ImpliesItselfAlone, IsClassOfLeast}
+use Rattle.etp_report.specs.Candidates.{implies_one, candidate_slot, candidates, AreCandidates, IsClassOfLeast}
 use Rattle.etp_report.proofs.Sums.{implied_if}
-use Rattle.etp_report.proofs.Lists.{all-laws, few_pass, filter-same, filter-only, filter-within, any-filter}
+use Rattle.etp_report.proofs.Lists.{few_pass, filter-same, filter-only, filter-both, any-filter}
 
 module _ (known : Known) where
   reached : (e f : ℕ) → is_same (answer_of known e f) Implied ≡ is_reached known e f
@@ -25,8 +27,20 @@ module _ (known : Known) where
   pub equivalent-reached : (e f : ℕ) → are_equivalent (answer_of known) e f ≡ (is_reached known e f && is_reached known f e)
   equivalent-reached e f = ap (λ b. b && is_same (answer_of known f e) Implied) (reached e f) ∙ ap (λ b. is_reached known e f && b) (reached f e)
 
-  pub reach_of : (e f : ℕ) → are_equivalent (answer_of known) e f ≡ true → is_reached known e f ≡ true
-  reach_of e f on = (and_parts (is_reached known e f) (is_reached known f e) (sym (equivalent-reached e f) ∙ on)).0
+  reach_back : (e f : ℕ) → are_equivalent (answer_of known) e f ≡ true → is_reached known f e ≡ true
+  reach_back e f on = (and_parts (is_reached known e f) (is_reached known f e) (sym (equivalent-reached e f) ∙ on)).1
+
+  reached-bit : (e f s t : ℕ) → slot_of known.slots e ≡ Some s → slot_of known.slots f ≡ Some t → is_reached known e f ≡ bit known.reached s t
+  unfolding is_reached
+  reached-bit e f s t i j = rw (i, j) refl
+
+  -- by the slots of both laws
+  pub equivalent-bits : (e f s t : ℕ) → slot_of known.slots e ≡ Some s → slot_of known.slots f ≡ Some t
+      → are_equivalent (answer_of known) e f ≡ (bit known.reached s t && bit known.reached t s)
+  equivalent-bits e f s t i j =
+      equivalent-reached e f
+      ∙ ap (λ b. b && is_reached known f e) (reached-bit e f s t i j)
+      ∙ ap (λ b. bit known.reached s t && b) (reached-bit f e t s j i)
 
 -- a law that reaches itself alone is alone in its class
 module _ (known : Known) (n e : ℕ) (law : IsLaw n e) (alone : (f : ℕ) → IsLaw n f → is_reached known e f ≡ nat_eq e f) where
@@ -97,52 +111,99 @@ counted-alone known n e law self one f l = elim (cases_eq e f) [
       off ∙ sym (ne_eqb e f apart)
 ]
 
--- what a kept law reaches is kept
-reached-kept : (known : Known) (e f : ℕ) → IsKept known.slots e → is_reached known e f ≡ true → is_some (slot_of known.slots f) ≡ true
-unfolding is_reached
-reached-kept known e f kept on = go (slot_of known.slots e) (slot_of known.slots f) refl refl kept on where
-  go : (o p : Option ℕ) → slot_of known.slots e ≡ o → slot_of known.slots f ≡ p → IsSome o → bit_by_slots known.reached o p (nat_eq e f) ≡ true → is_some p ≡ true
-  go None p i j k h = absurd (false≢true k)
-  go (Some row) (Some column) i j k h = refl
-  go (Some row) None i j k h =
-      let same : e ≡ f = eqb-true e f h in
-      let clash : Some row ≡ None = sym i ∙ ap (slot_of known.slots) same ∙ j in
+if-none : (b : Bool) (o : Option ℕ) → (if b then None else o) ≡ None → b ≡ false → o ≡ None
+if-none true o none off = absurd (false≢true (sym off))
+if-none false o none off = none
+
+if-some : (b : Bool) (o : Option ℕ) → is_some (if b then None else o) ≡ true → o ≡ Some (unwrap_or o 0)
+if-some true o on = absurd (false≢true on)
+if-some false (Some s) on = refl
+if-some false None on = absurd (false≢true on)
+
+if-is : (b : Bool) (o : Option ℕ) (s : ℕ) → (if b then None else o) ≡ Some s → o ≡ Some s
+if-is true o s is = absurd (cc)
+if-is false o s is = is
+
+-- a law that is no candidate reaches itself alone
+none-alone : (known : Known) (e : ℕ) → IsLaw (length known.duals) e → candidate_slot known e ≡ None
+    → (f : ℕ) → IsLaw (length known.duals) f → is_reached known e f ≡ nat_eq e f
+none-alone known e law none f l =
+    let count = count_below (λ place. is_reached known e (place + 1)) (length known.duals) in
+    elim (cases_Bool (implies_one known e)) [
+      | inl one ↦
+          let parts = and_parts (is_reached known e e) (nat_eq count 1) one in
+          counted-alone known (length known.duals) e law parts.0 (eqb-true count 1 parts.1) f l
+      | inr more ↦ unkept-alone known e (if-none (implies_one known e) (slot_of known.slots e) none more) f
+    ]
+
+-- a candidate is equivalent to candidates alone
+candidate-too : (known : Known) (e s : ℕ) → IsLaw (length known.duals) e → candidate_slot known e ≡ Some s
+    → (f : ℕ) → IsLaw (length known.duals) f → are_equivalent (answer_of known) e f ≡ true → is_some (candidate_slot known f) ≡ true
+candidate-too known e s law at f l on = go (candidate_slot known f) refl where
+  go : (o : Option ℕ) → candidate_slot known f ≡ o → is_some o ≡ true
+  go (Some t) i = refl
+  go None i =
+      let same : f ≡ e = eqb-true f e (sym (none-alone known f l i e law) ∙ reach_back known e f on) in
+      let clash : Some s ≡ None = sym at ∙ ap (candidate_slot known) (sym same) ∙ i in
       absurd (cc)
 
--- the class of a kept law is among the kept laws
-pub kept-class : (known : Known) (n e : ℕ) → IsKept known.slots e
-    → filter (are_equivalent (answer_of known) e) (filter (λ law. is_some (slot_of known.slots law)) (laws_to n)) ≡ class_with (answer_of known) n e
-kept-class known n e kept =
-    filter-within (are_equivalent (answer_of known) e) (λ law. is_some (slot_of known.slots law)) (laws_to n)
-    (λ f on. reached-kept known e f kept (reach_of known e f on))
+both_is_first : (a b : Bool) → (a ≡ true → b ≡ true) → (a && b) ≡ a
+both_is_first true b h = h refl
+both_is_first false b h = refl
+
+-- the class of a candidate is among the candidates
+candidate-class : (known : Known) (e s : ℕ) → IsLaw (length known.duals) e → candidate_slot known e ≡ Some s
+    → filter (are_equivalent (answer_of known) e) (candidates known) ≡ class_with (answer_of known) (length known.duals) e
+candidate-class known e s law at =
+    let p = are_equivalent (answer_of known) e in
+    let q : ℕ → Bool = λ f. is_some (candidate_slot known f) in
+    filter-both p q (laws_to (length known.duals))
+    ∙ filter-same (λ f. p f && q f) p (length known.duals) (λ f l. both_is_first (p f) (q f) (candidate-too known e s law at f l))
 
 -- a law of the class that is smaller
-pub smaller-found : (known : Known) (e : ℕ) → IsKept known.slots e → (kept : List ℕ) → kept ≡ kept_laws known
-    → (i : ℕ) → i < length kept → are_equivalent (answer_of known) e (get_or kept i 0) ≡ true → get_or kept i 0 < e → is_least (answer_of known) (length known.duals) e ≡ false
-smaller-found known e k kept is i h on less =
+pub smaller-found : (known : Known) (e s : ℕ) → IsLaw (length known.duals) e → candidate_slot known e ≡ Some s → (laws : List ℕ) → laws ≡ candidates known
+    → (i : ℕ) → i < length laws → are_equivalent (answer_of known) e (get_or laws i 0) ≡ true → get_or laws i 0 < e → is_least (answer_of known) (length known.duals) e ≡ false
+smaller-found known e s law at laws is i h on less =
     let p = are_equivalent (answer_of known) e in
-    let x = get_or kept i 0 in
-    let any : list_any (λ f. nat_lt f e) (filter p kept) ≡ true =
-    any-filter p (λ f. nat_lt f e) kept ∙ list_any_at (λ f. p f && nat_lt f e) kept i 0 h (and_from (p x) (nat_lt x e) on (lt-ltb x e less)) in
-    let same : filter p kept ≡ class_with (answer_of known) (length known.duals) e = ap (filter p) is ∙ kept-class known (length known.duals) e k in
+    let x = get_or laws i 0 in
+    let any : list_any (λ f. nat_lt f e) (filter p laws) ≡ true =
+    any-filter p (λ f. nat_lt f e) laws ∙ list_any_at (λ f. p f && nat_lt f e) laws i 0 h (and_from (p x) (nat_lt x e) on (lt-ltb x e less)) in
+    let same : filter p laws ≡ class_with (answer_of known) (length known.duals) e = ap (filter p) is ∙ candidate-class known e s law at in
     ap not (ap (list_any (λ f. nat_lt f e)) (sym same) ∙ any)
 
--- each of the kept laws is a law
-pub kept-law : (known : Known) (kept : List ℕ) → kept ≡ kept_laws known
-    → (i : ℕ) → i < length kept → IsLaw (length known.duals) (get_or kept i 0)
-kept-law known kept is i h =
-    let q : ℕ → Bool = λ law. is_some (slot_of known.slots law) in
-    let n = length known.duals in
-    let all : All (IsLaw n) (filter q (laws_to n)) = All-filter q (IsLaw n) (laws_to n) (all-laws n) in
-    All-get_or (IsLaw n) kept i 0 h (All-same (IsLaw n) kept (filter q (laws_to n)) is all)
+-- whether a candidate is equivalent, by its slot
+pub candidate-bits : (known : Known) (e s : ℕ) → candidate_slot known e ≡ Some s → (laws slots : List ℕ) → AreCandidates known laws slots → (i : ℕ) → i < length laws
+    → are_equivalent (answer_of known) e (get_or laws i 0) ≡ (bit known.reached s (get_or slots i 0) && bit known.reached (get_or slots i 0) s)
+candidate-bits known e s at laws slots found i h =
+    let q : ℕ → Bool = λ f. is_some (candidate_slot known f) in
+    let f = get_or laws i 0 in
+    let slot : ℕ → ℕ = λ law. unwrap_or (slot_of known.slots law) 0 in
+    let all : All (λ law. q law ≡ true) laws = All-same (λ law. q law ≡ true) laws (candidates known) found.listed (filter_passes q (laws_to (length known.duals))) in
+    let on : q f ≡ true = All-get_or (λ law. q law ≡ true) laws i 0 h all in
+    let there : get_or slots i 0 ≡ slot f = ap (λ (xs : List ℕ). get_or xs i 0) found.same_order ∙ get_or-map slot laws i 0 0 h in
+    let its : slot_of known.slots f ≡ Some (get_or slots i 0) = if-some (implies_one known f) (slot_of known.slots f) on ∙ ap Some (sym there) in
+    equivalent-bits known e f s (get_or slots i 0) (if-is (implies_one known e) (slot_of known.slots e) s at) its
 
-pub kept-few : (known : Known) (kept : List ℕ) → kept ≡ kept_laws known
-    → (p : ℕ → Bool) (i : ℕ) → i < length kept → length (filter p (take i kept)) < length known.duals
-kept-few known kept is p i h =
+-- the same, by what is looked at
+pub candidate-test : (known : Known) (e s : ℕ) → candidate_slot known e ≡ Some s → (laws slots : List ℕ) → AreCandidates known laws slots
+    → (matrix : Bits) → matrix ≡ known.reached → (seen : List ℕ) → seen ≡ slots → (i : ℕ) → i < length laws
+    → are_equivalent (answer_of known) e (get_or laws i 0) ≡ (bit matrix s (get_or seen i 0) && bit matrix (get_or seen i 0) s)
+candidate-test known e s at laws slots found matrix same seen are i h =
+    candidate-bits known e s at laws slots found i h
+    ∙ ap (λ (xs : List ℕ). bit known.reached s (get_or xs i 0) && bit known.reached (get_or xs i 0) s) (sym are)
+    ∙ ap (λ (m : Bits). bit m s (get_or seen i 0) && bit m (get_or seen i 0) s) (sym same)
+
+-- the slot of a candidate
+pub slot-number : (known : Known) (e s : ℕ) → candidate_slot known e ≡ Some s → s ≡ unwrap_or (slot_of known.slots e) 0
+slot-number known e s at = ap (λ (o : Option ℕ). unwrap_or o 0) (sym (if-is (implies_one known e) (slot_of known.slots e) s at))
+
+pub candidates-few : (known : Known) (laws : List ℕ) → laws ≡ candidates known
+    → (p : ℕ → Bool) (i : ℕ) → i < length laws → length (filter p (take i laws)) < length known.duals
+candidates-few known laws is p i h =
     let a = ap length is in
-    let b = few_pass (λ law. is_some (slot_of known.slots law)) (length known.duals) in
-    let c = length-filter_both p (λ k. not (p k)) (λ k. refl) (take i kept) in
-    let d = length-take-le i kept (omega (arith, h)) in
+    let b = few_pass (λ law. is_some (candidate_slot known law)) (length known.duals) in
+    let c = length-filter_both p (λ k. not (p k)) (λ k. refl) (take i laws) in
+    let d = length-take-le i laws (omega (arith, h)) in
     omega (arith, a, b, c, d, h)
 
 -- a class so far, with the next law where it is equivalent
@@ -160,15 +221,18 @@ pub none-more : (e x : ℕ) (old new : List ℕ) → list_any (λ f. nat_lt f e)
 none-more e x old new none h is =
     ap (list_any (λ f. nat_lt f e)) is ∙ list_any-append (λ f. nat_lt f e) old (x ∷ []) ∙ rw (none, le-ltb x e h) refl
 
--- all kept laws are looked at
-pub class-whole : (known : Known) (e : ℕ) → IsKept known.slots e → (kept : List ℕ) → kept ≡ kept_laws known
-    → (i : ℕ) → length kept ≤ i → (found : List ℕ) → found ≡ filter (are_equivalent (answer_of known) e) (take i kept) → list_any (λ f. nat_lt f e) found ≡ false
+-- all candidates are looked at
+pub class-whole : (known : Known) (e s : ℕ) → IsLaw (length known.duals) e → candidate_slot known e ≡ Some s → (laws : List ℕ) → laws ≡ candidates known
+    → (i : ℕ) → length laws ≤ i → (found : List ℕ) → found ≡ filter (are_equivalent (answer_of known) e) (take i laws) → list_any (λ f. nat_lt f e) found ≡ false
     → IsClassOfLeast known e (Some found)
-class-whole known e k kept is i h found so none =
+class-whole known e s law at laws is i h found so none =
     let p = are_equivalent (answer_of known) e in
-    let whole : found ≡ class_with (answer_of known) (length known.duals) e = so ∙ ap (filter p) (take_all i kept h ∙ is) ∙ kept-class known (length known.duals) e k in
+    let whole : found ≡ class_with (answer_of known) (length known.duals) e = so ∙ ap (filter p) (take_all i laws h ∙ is) ∙ candidate-class known e s law at in
     (ap not (ap (list_any (λ f. nat_lt f e)) (sym whole) ∙ none), whole)
 
--- a law that implies itself alone
-pub class-alone : (known : Known) (e : ℕ) → IsLaw (length known.duals) e → ImpliesItselfAlone known e → (found : List ℕ) → found ≡ e ∷ [] → IsClassOfLeast known e (Some found)
-class-alone known e law alone found is = (lone-least known (length known.duals) e law alone, is ∙ sym (lone-class known (length known.duals) e law alone))
+-- a law that is no candidate is alone in its class
+pub class-alone : (known : Known) (e : ℕ) → IsLaw (length known.duals) e → candidate_slot known e ≡ None → (found : List ℕ) → found ≡ e ∷ [] → IsClassOfLeast known e (Some found)
+class-alone known e law none found is =
+    let n = length known.duals in
+    let alone = none-alone known e law none in
+    (lone-least known n e law alone, is ∙ sym (lone-class known n e law alone))

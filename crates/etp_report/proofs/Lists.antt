@@ -1,8 +1,8 @@
 -- Lists of laws, law by law.
 use Rattle.std.proofs.Common.{◌≡◌, ℕ, zero, suc, ◌+◌, ◌<◌, ◌≤◌, ◌&&◌, not, nat_eq, Bool, true, false, cond, refl, sym, ◌∙◌, ap, subst, add-one, arith, inl, inr, List, [], ◌∷◌, ◌++◌, length, append-nil, All}
-use Rattle.std.specs.Prelude.{filter, map, flat_map}
+use Rattle.std.specs.Prelude.{filter, map}
 use Rattle.std.specs.List.{range_with_len, list_any}
-use Rattle.std.proofs.lemmas.Bool.{cases_eq, cases_Bool, eqb-true, eq-eqb, ne_eqb, both_ways, false_from_ne_true}
+use Rattle.std.proofs.lemmas.Bool.{cases_eq, cases_Bool, eq-eqb, ne_eqb}
 use Rattle.std.proofs.lemmas.List.{map-id, map-append}
 use Rattle.std.proofs.lemmas.List.FromFn.{map-range_with_len_more, length-range_with_len, get_or-range_with_len}
 use Rattle.std.proofs.lemmas.List.Elements.{filter-append, All-from_get_or}
@@ -87,14 +87,12 @@ filter-only e (suc n) l = elim (cases_eq e (suc n)) [
       filter-suc (nat_eq e) n ∙ one
 ]
 
--- a filter of what passes a weaker test
-pub filter-within : (p q : ℕ → Bool) (xs : List ℕ) → ((x : ℕ) → p x ≡ true → q x ≡ true) → filter p (filter q xs) ≡ filter p xs
-filter-within p q [] weaker = refl
-filter-within p q (x ∷ xs) weaker = elim (cases_Bool (q x)) [
-  | inl on ↦ rw on (ap (λ (ys : List ℕ). cond (p x) (x ∷ ys) ys) (filter-within p q xs weaker))
-  | inr off ↦
-      let fails : p x ≡ false = false_from_ne_true (p x) (λ on. both_ways (q x) off (weaker x on)) in
-      rw (off, fails) (filter-within p q xs weaker)
+-- a filter of a filter
+pub filter-both : (p q : ℕ → Bool) (xs : List ℕ) → filter p (filter q xs) ≡ filter (λ x. p x && q x) xs
+filter-both p q [] = refl
+filter-both p q (x ∷ xs) = elim (cases_Bool (q x)) [
+  | inl on ↦ elim (cases_Bool (p x)) [ inl pass ↦ rw (on, pass, filter-both p q xs) refl | inr fail ↦ rw (on, fail, filter-both p q xs) refl ]
+  | inr off ↦ elim (cases_Bool (p x)) [ inl pass ↦ rw (off, pass, filter-both p q xs) refl | inr fail ↦ rw (off, fail, filter-both p q xs) refl ]
 ]
 
 -- whether some number that passes one test passes the other

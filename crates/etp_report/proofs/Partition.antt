@@ -1,5 +1,5 @@
 -- Each law is in one class.
-use Rattle.std.proofs.Common.{◌≡◌, ℕ, zero, suc, ◌+◌, ◌-◌, ◌<◌, ◌≤◌, ◌&&◌, not, nat_eq, nat_lt, Bool, true, false, refl, sym, ◌∙◌, ap, subst, arith, inl, inr, List, length, get_or, map, Option, Some, None, slice_get, Contains, All}
+use Rattle.std.proofs.Common.{◌≡◌, ℕ, zero, suc, ◌+◌, ◌-◌, ◌<◌, ◌≤◌, ◌&&◌, not, nat_eq, nat_lt, Bool, true, refl, sym, ◌∙◌, ap, subst, arith, inl, inr, List, length, get_or, Option, Some, None, slice_get, Contains}
 use Rattle.std.specs.Prelude.{filter}
 use Rattle.std.specs.Option.{option_map}
 use Rattle.std.specs.List.{list_any}

@@ -1,13 +1,14 @@
-ghost use Rattle.std.specs.Prelude.{◌≡◌, ◌<◌, ◌^◌, ◌++◌, ◌∷◌, [], ℕ, List, IfOk, OnOk, OnErr, IsTrue, length, slice_get, false};
+ghost use Rattle.std.specs.Prelude.{◌≡◌, ◌<◌, ◌^◌, ◌++◌, ◌∷◌, [], ℕ, List, IfOk, OnOk, OnErr, IfSome, Some, length, slice_get, ◌&&◌};
 ghost use Rattle.std.specs.Option.{option_copied};
 ghost use Rattle.etp_theory.specs.LawNumbers.{IsLaw};
 ghost use Rattle.etp_theory.specs.Reach.{Fact};
-ghost use Rattle.etp_closure.specs.Closures.{StandsFor, IsKept};
+ghost use Rattle.etp_bits.specs.Bits.{bit};
+ghost use Rattle.etp_closure.specs.Closures.{StandsFor};
 ghost use Rattle.etp_closure.specs.Answers.{answer_of, Says};
 ghost use Rattle.etp_report.specs.Reports.{are_equivalent, class_with, classes_with, IsInOne};
-ghost use Rattle.etp_report.specs.Kept.{kept_laws, ImpliesItselfAlone, IsClassOfLeast};
+ghost use Rattle.etp_report.specs.Candidates.{implies_one, candidate_slot, IsSlot, AreCandidates, IsClassOfLeast};
 
-use etp_bits::Numbers;
+use etp_bits::{Matrix, Numbers};
 use etp_closure::Closure;
 use std::alloc::{AllocError, Global};
 use std::marker::Model;
@@ -95,62 +96,84 @@ pub fn class_of(alloc: Global, closure: &Closure, e: u32) -> Result<Numbers, All
     Ok(class)
 }
 
-// The laws that are kept, rising. Any other is alone in its class.
-fn kept_laws(alloc: Global, closure: &Closure) -> Result<Numbers, AllocError>
-    ensures { IfOk result (λ kept. kept ≡ kept_laws closure.now) }
-{
-    let mut kept = Numbers::empty(alloc);
-    for place in 0..closure.size() {
-        if closure.slot(place + 1).is_some() {
-            kept.push(place + 1)?;
-        }
-    }
-    Ok(kept)
-}
-
 // Whether a law implies itself and one law in all.
 fn implies_one_law(closure: &Closure, e: u32) -> bool
     requires { IsLaw (length closure.now.duals) e }
-    ensures { IsTrue result → ImpliesItselfAlone closure.now e }
+    ensures { result ≡ implies_one closure.now e }
 {
-    if !closure.implied(e, e) {
-        return false;
-    }
-    closure.row_counts(e).implied == 1
+    closure.implied(e, e) && closure.row_counts(e).implied == 1
 }
 
-// Whether a law is found to imply no law but itself.
-fn implies_itself_alone(closure: &Closure, e: u32) -> bool
+// The slot of a law that may imply another law, or None for a law that is alone in its class.
+fn candidate_slot(closure: &Closure, e: u32) -> Option<u32>
     requires { IsLaw (length closure.now.duals) e }
-    ensures yes { IsTrue result → ImpliesItselfAlone closure.now e }
-    ensures no { result ≡ false → IsKept closure.now.slots e }
+    ensures value { result ≡ candidate_slot closure.now e }
+    ensures slot { IfSome result (IsSlot closure.now.reached) }
 {
-    match closure.slot(e) {
-        None => true,
-        Some(_) => implies_one_law(closure, e),
+    if implies_one_law(closure, e) {
+        return None;
     }
+    closure.slot(e)
 }
 
-// The class of a law that is kept, or None where a smaller law is in it.
-fn class_by_kept(
+// The laws that may imply another law, rising, and the slot of each at its place.
+#[derive(Drop)]
+struct Candidates {
+    laws: Numbers,
+    slots: Numbers,
+}
+
+fn find_candidates(alloc: Global, closure: &Closure) -> Result<Candidates, AllocError>
+    ensures { IfOk result (λ found. AreCandidates closure.now found.laws found.slots) }
+{
+    let mut laws = Numbers::empty(alloc);
+    let mut slots = Numbers::empty(alloc);
+    for place in 0..closure.size() {
+        match candidate_slot(closure, place + 1) {
+            Some(slot) => {
+                laws.push(place + 1)?;
+                slots.push(slot)?;
+            }
+            None => {}
+        }
+    }
+    Ok(Candidates { laws, slots })
+}
+
+// Whether the laws of two slots are equivalent.
+fn reach_each_other(reached: &Matrix, slot: u32, other: u32) -> bool
+    requires slot_in { IsSlot reached.now slot }
+    requires other_in { IsSlot reached.now other }
+    ensures { result ≡ (bit reached.now slot other && bit reached.now other slot) }
+{
+    reached.get(slot, other) && reached.get(other, slot)
+}
+
+// The class of a law that may imply another, or None where a smaller law is in it.
+fn class_of_candidate(
     alloc: Global,
     closure: &Closure,
-    kept: &[u32],
+    candidates: &Candidates,
     e: u32,
+    slot: u32,
 ) -> Result<Option<Numbers>, AllocError>
     requires e_in { IsLaw (length closure.now.duals) e }
-    requires e_kept { IsKept closure.now.slots e }
+    requires slot_of_e { candidate_slot closure.now e ≡ Some slot }
+    requires slot_in { IsSlot closure.now.reached slot }
     requires few { length closure.now.duals < 2 ^ 32 }
-    requires kept { kept.now ≡ kept_laws closure.now }
+    requires found { AreCandidates closure.now candidates.now.laws candidates.now.slots }
     ensures { IfOk result (IsClassOfLeast closure.now e) }
 {
+    let reached = closure.reached();
+    let laws = candidates.laws.as_slice();
+    let slots = candidates.slots.as_slice();
     let mut class = Numbers::empty(alloc);
-    for law in kept {
-        if are_equivalent(closure, e, *law) {
-            if *law < e {
+    for place in 0..laws.len() {
+        if reach_each_other(reached, slot, slots[place]) {
+            if laws[place] < e {
                 return Ok(None);
             }
-            class.push(*law)?;
+            class.push(laws[place])?;
         }
     }
     Ok(Some(class))
@@ -160,24 +183,27 @@ fn class_by_kept(
 fn class_of_least(
     alloc: Global,
     closure: &Closure,
-    kept: &[u32],
+    candidates: &Candidates,
     e: u32,
 ) -> Result<Option<Numbers>, AllocError>
     requires e_in { IsLaw (length closure.now.duals) e }
     requires few { length closure.now.duals < 2 ^ 32 }
-    requires kept { kept.now ≡ kept_laws closure.now }
+    requires found { AreCandidates closure.now candidates.now.laws candidates.now.slots }
     ensures { IfOk result (IsClassOfLeast closure.now e) }
 {
-    if implies_itself_alone(closure, e) {
-        let mut class = Numbers::empty(alloc);
-        class.push(e)?;
-        return Ok(Some(class));
+    match candidate_slot(closure, e) {
+        Some(slot) => class_of_candidate(alloc, closure, candidates, e, slot),
+        None => {
+            let mut class = Numbers::empty(alloc);
+            class.push(e)?;
+            Ok(Some(class))
+        }
     }
-    class_by_kept(alloc, closure, kept, e)
 }
 
 /// Lists the classes of all laws. A law that implies no other is found by one count of its row's
-/// bits; for any other the laws that are kept are gone through once at most.
+/// bits; any other is compared with the laws that may imply another, by bits of their rows, until a
+/// smaller law of its class is found.
 pub fn classes_of(alloc: Global, closure: &Closure) -> Result<Classes, AllocError>
     ensures classes { IfOk result (λ classes.
         classes ≡ classes_with (answer_of closure.now) (length closure.now.duals)) }
@@ -186,10 +212,10 @@ pub fn classes_of(alloc: Global, closure: &Closure) -> Result<Classes, AllocErro
     ensures says { OnOk result ((facts : List Fact) → StandsFor closure.now facts → (e f : ℕ)
         → Says closure.now.duals facts e f (answer_of closure.now e f)) }
 {
-    let kept = kept_laws(alloc, closure)?;
+    let candidates = find_candidates(alloc, closure)?;
     let mut classes = Classes::empty(alloc);
     for place in 0..closure.size() {
-        let class = class_of_least(alloc, closure, kept.as_slice(), place + 1)?;
+        let class = class_of_least(alloc, closure, &candidates, place + 1)?;
         match class {
             Some(class) => classes.push(class)?,
             None => {}

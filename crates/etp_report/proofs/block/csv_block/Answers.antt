@@ -1,4 +1,4 @@
-use Rattle.std.proofs.Common.{◌≡◌, ◌∙◌, ◌++◌, refl, sym, ap, subst, arith, true, false, length, List, ℕ}
+use Rattle.std.proofs.Common.{◌≡◌, ◌∙◌, ◌++◌, refl, sym, ap, subst, arith, true, false, List, ℕ}
 use Rattle.etp_report.specs.Blocks.{IsBlock}
 use Rattle.etp_report.proofs.Sums.{says}
 use Rattle.etp_report.proofs.block.csv_block.Goals as goal

@@ -1,4 +1,4 @@
-use Rattle.std.proofs.Common.{◌≡◌, ◌∙◌, ◌+◌, ◌++◌, ◌∷◌, [], refl, sym, ap, arith, List, ℕ}
+use Rattle.std.proofs.Common.{◌≡◌, ◌∙◌, ◌+◌, ◌++◌, ◌∷◌, [], refl, ap, arith, List, ℕ}
 use Rattle.std.specs.Prelude.{decimal}
 use Rattle.csv.specs.Records.{fields_of}
 use Rattle.etp_closure.specs.Answers.{answer_of}

@@ -1,4 +1,4 @@
-use Rattle.std.proofs.Common.{◌≡◌, ◌∙◌, ◌+◌, refl, arith}
+use Rattle.std.proofs.Common.{◌∙◌, ◌+◌, refl}
 use Rattle.std.specs.Prelude.{codes, decimal}
 use Rattle.csv.specs.Records.{fields_of}
 use Rattle.etp_report.proofs.Records.{field-more}

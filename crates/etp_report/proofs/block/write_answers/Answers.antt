@@ -1,4 +1,4 @@
-use Rattle.std.proofs.Common.{◌∙◌, ◌++◌, ◌+◌, ◌<◌, ◌^◌, ap, List, ℕ, arith}
+use Rattle.std.proofs.Common.{◌∙◌, ◌++◌, ◌<◌, ◌^◌, ap, List, ℕ, arith}
 use Rattle.std.specs.Prelude.{decimal}
 use Rattle.csv.specs.Records.{fields_of}
 use Rattle.csv.specs.Writing as Csv

@@ -1,4 +1,4 @@
-use Rattle.std.proofs.Common.{◌≡◌, ◌∙◌, ◌++◌, ◌+◌, [], refl, sym, ap, List, ℕ, arith, append-nil}
+use Rattle.std.proofs.Common.{◌∙◌, ◌++◌, ◌+◌, refl, sym, ap, arith, append-nil}
 use Rattle.csv.specs.Writing as Csv
 use Rattle.etp_closure.specs.Answers.{answer_of}
 use Rattle.std.specs.Prelude.{flat_map}

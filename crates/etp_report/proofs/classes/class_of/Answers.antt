@@ -1,4 +1,4 @@
-use Rattle.std.proofs.Common.{◌≡◌, ◌+◌, ◌∙◌, sym, ap, length, arith}
+use Rattle.std.proofs.Common.{◌∙◌, sym, ap, length, arith}
 use Rattle.etp_closure.specs.Answers.{answer_of}
 use Rattle.etp_report.specs.Reports.{are_equivalent, class_with}
 use Rattle.etp_report.proofs.Lists.{grows, stays, few_pass}

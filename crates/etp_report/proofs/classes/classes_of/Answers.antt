@@ -1,10 +1,9 @@
-use Rattle.std.proofs.Common.{◌≡◌, ◌+◌, ◌∙◌, ap, arith, sym, subst, List, ℕ, length, map}
+use Rattle.std.proofs.Common.{◌≡◌, ◌∙◌, ap, arith, sym, subst, List, ℕ, length, map}
 use Rattle.std.proofs.lemmas.List.{length-map}
 use Rattle.std.specs.Prelude.{filter}
 use Rattle.etp_closure.specs.Closures.{Known}
 use Rattle.etp_closure.specs.Answers.{answer_of}
 use Rattle.etp_report.specs.Reports.{laws_to, class_with, is_least, classes_with, IsInOne}
-use Rattle.etp_report.specs.Kept.{IsClassOfLeast}
 use Rattle.etp_report.proofs.Lists.{map-grows, map-stays, few_pass}
 use Rattle.etp_report.proofs.Partition.{each_in_one}
 use Rattle.etp_report.proofs.Sums.{says}
