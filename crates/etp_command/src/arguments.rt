@@ -17,6 +17,11 @@ pub enum Task {
         count: u32,
         seed: u32,
     },
+    /// The summary of a ledger that took as many such files and withdrew the first.
+    Demo {
+        count: u32,
+        seed: u32,
+    },
     /// A search for a shortest proof from one law to another, of order 4, over terms of at most 1 to 6
     /// leaves and with at most 0 to 12 steps.
     Shortest {
@@ -37,7 +42,7 @@ pub fn task_of(words: &[String]) -> Task
         [] => Task::Session,
         [word] => task_of_word(word.as_bytes()),
         [word, other] => task_of_words(word.as_bytes(), other.as_bytes()),
-        [word, count, seed] => generate_task(word.as_bytes(), count.as_bytes(), seed.as_bytes()),
+        [word, count, seed] => files_task(word.as_bytes(), count.as_bytes(), seed.as_bytes()),
         [_, _, _, _] => Task::Unknown,
         [word, e, f, leaves, steps] => shortest_task(
             word.as_bytes(),
@@ -87,11 +92,12 @@ fn between(low: u32, high: u32, word: &[u8]) -> Option<u32>
     }
 }
 
-fn generate_task(word: &[u8], count: &[u8], seed: &[u8]) -> Task
+fn files_task(word: &[u8], count: &[u8], seed: &[u8]) -> Task
     ensures task { result ≡ task_of (word.now ∷ count.now ∷ seed.now ∷ []) }
     ensures range { IsInRange result }
 {
-    if !is(word, "generate") {
+    let generate = is(word, "generate");
+    if !generate && !is(word, "demo") {
         return Task::Unknown;
     }
     let Some(count) = between(1, 10000, count) else {
@@ -100,7 +106,11 @@ fn generate_task(word: &[u8], count: &[u8], seed: &[u8]) -> Task
     let Some(seed) = number_word(seed) else {
         return Task::Unknown;
     };
-    Task::Generate { count, seed }
+    if generate {
+        Task::Generate { count, seed }
+    } else {
+        Task::Demo { count, seed }
+    }
 }
 
 fn shortest_task(word: &[u8], e: &[u8], f: &[u8], leaves: &[u8], steps: &[u8]) -> Task

@@ -7,6 +7,7 @@ ghost use Rattle.etp_tasks.specs.Listings.{WritesLaws};
 ghost use Rattle.etp_tasks.specs.Scripts.{IsScriptOf};
 ghost use Rattle.etp_tasks.specs.Searches.{IsSearchOf};
 ghost use Rattle.etp_tasks.specs.Writing.{WritesSome};
+ghost use Rattle.etp_demo.specs.Demos.{IsDemoOf};
 ghost use Rattle.etp_session.specs.Streams.{streams};
 ghost use Rattle.etp_session.specs.Protocols.{ledger_protocol};
 ghost use Rattle.etp_session.specs.Sessions.{IsSession, IsWholeSession};
@@ -17,6 +18,7 @@ ghost use Rattle.etp_reply.specs.Shelves.{known};
 
 use crate::serving::session;
 use etp_command::{ListOrder, Task, task_of};
+use etp_demo::write_demo;
 use etp_io::{Shelf, Sink, Source, SureShelf, SureSink, SureSource};
 use etp_tasks::{Search, list_laws, write_script, write_search};
 use std::alloc::Global;
@@ -28,8 +30,9 @@ const LIMIT: u64 = 134_217_728;
 ///
 /// The word `session`, or no word, asks for a session with a limit of 134217728 bytes; `laws` and
 /// `laws 5` ask for the list of the laws of at most four, or five, operations; `generate K N` for K
-/// generated files of the seed N, K from 1 to 10000; `shortest E F LEAVES STEPS` for a shortest proof
-/// of law F from law E over terms of at most LEAVES leaves, 1 to 6, in at most STEPS steps, 0 to 12.
+/// generated files of the seed N, K from 1 to 10000; `demo K N` for the summary of a ledger that took
+/// these files and withdrew the first; `shortest E F LEAVES STEPS` for a shortest proof of law F from
+/// law E over terms of at most LEAVES leaves, 1 to 6, in at most STEPS steps, 0 to 12.
 /// With any other words the status is 2, and nothing is read or written.
 pub fn run<S: Source, K: Sink, H: Shelf>(
     alloc: Global,
@@ -55,11 +58,14 @@ pub fn run<S: Source, K: Sink, H: Shelf>(
     ensures laws { (order : ListOrder) → IsTask (map string_bytes words.now) (Task.Laws order)
         → WritesLaws (operations_of order) (K.took sink.old) (K.took sink.new) result }
 
-    // Generated files, and the search for a shortest proof: at 0 the text was written, at 4 a prefix,
-    // at 5 nothing.
+    // Generated files, the summary of a ledger that took them, and the search for a shortest proof: at
+    // 0 the text was written, at 4 a prefix, at 5 nothing.
     ensures generate { (count seed : ℕ)
         → IsTask (map string_bytes words.now) (Task.Generate count seed)
         → WritesSome (IsScriptOf count seed) (K.took sink.old) (K.took sink.new) result }
+    ensures demo { (count seed : ℕ)
+        → IsTask (map string_bytes words.now) (Task.Demo count seed)
+        → WritesSome (IsDemoOf count seed) (K.took sink.old) (K.took sink.new) result }
     ensures shortest { (e f leaves steps : ℕ)
         → IsTask (map string_bytes words.now) (Task.Shortest e f leaves steps)
         → WritesSome (IsSearchOf e f leaves steps) (K.took sink.old) (K.took sink.new) result }
@@ -75,6 +81,7 @@ pub fn run<S: Source, K: Sink, H: Shelf>(
         Task::Session => session(alloc, LIMIT, source, sink, shelf),
         Task::Laws(order) => list_laws(alloc, order, sink),
         Task::Generate { count, seed } => write_script(alloc, count, seed, sink),
+        Task::Demo { count, seed } => write_demo(alloc, count, seed, sink),
         Task::Shortest {
             hypothesis,
             goal,
