@@ -1,5 +1,6 @@
-ghost use Rattle.std.specs.Prelude.{◌≡◌, ◌↔◌, map, IfOk};
+ghost use Rattle.std.specs.Prelude.{◌≡◌, ◌≤◌, ◌↔◌, map, IfOk};
 ghost use Rattle.std.specs.String.{string_bytes};
+ghost use Rattle.etp_io.specs.Causes.{Rose};
 ghost use Rattle.etp_command.specs.Arguments.{task_of};
 ghost use Rattle.etp_command.specs.declared.arguments.Task.TheVariants.{Unknown};
 
@@ -15,7 +16,11 @@ pub fn run_words<R: Env + AllocGlobal, S: Source, K: Sink, H: Shelf>(
     source: &mut S,
     sink: &mut K,
     shelf: &mut H,
-) -> u8 {
+) -> u8
+    ensures write { result ≡ 4 → Rose (K.faults sink.old) (K.faults sink.new) }
+    ensures keeps { H.keeps shelf.new ≡ H.keeps shelf.old }
+    ensures statuses { result ≤ 7 }
+{
     status_of(rt.alloc(), arguments(rt), source, sink, shelf)
 }
 
@@ -36,7 +41,11 @@ fn status_of<S: Source, K: Sink, H: Shelf>(
     sink: &mut K,
     shelf: &mut H,
 ) -> u8
-    ensures { IfOk words (λ words. result ≡ 2 ↔ (task_of (map string_bytes words.items) ≡ Unknown)) }
+    ensures words { IfOk words
+        (λ words. result ≡ 2 ↔ (task_of (map string_bytes words.items) ≡ Unknown)) }
+    ensures write { result ≡ 4 → Rose (K.faults sink.old) (K.faults sink.new) }
+    ensures keeps { H.keeps shelf.new ≡ H.keeps shelf.old }
+    ensures statuses { result ≤ 7 }
 {
     match words {
         Ok(words) => run(alloc, words.as_slice(), source, sink, shelf),

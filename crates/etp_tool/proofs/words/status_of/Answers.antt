@@ -1,4 +1,4 @@
 use Rattle.etp_tool.proofs.words.status_of.Goals as goal
 
-pub returns-in-Ok : goal.returns-in-Ok
-returns-in-Ok g c = rw c.in-Ok.is (rw c.as_slice.ensures.value at c.run.ensures.words)
+pub returns-in-Ok-clause-words : goal.returns-in-Ok-clause-words
+returns-in-Ok-clause-words g c = rw c.in-Ok.is (rw c.as_slice.ensures.value at c.run.ensures.words)
