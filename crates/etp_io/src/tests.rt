@@ -140,7 +140,7 @@ fn a_sink_takes_pieces_up_to_its_room(rt: HostRuntime) -> Result<(), Fail> {
     assert_eq!(rt; write_all(&mut sink, b"cde"), Ok(()));
     assert_eq!(rt; sink.write(b"f"), Err(Failed));
     assert_eq!(rt; sink.taken(), b"abcde".as_slice());
-    assert_eq!(rt; write_all(&mut SureSink::of(), b"abc"), Ok(()));
+    assert_eq!(rt; write_all(&mut SureSink, b"abc"), Ok(()));
     Ok(())
 }
 

@@ -129,6 +129,6 @@ pub fn run_in_memory(alloc: Global, words: &[String], bytes: Vec<u8>, shelf: &mu
         bytes.items text true }
 {
     let mut source = SureSource::of(bytes);
-    let mut sink = SureSink::of();
+    let mut sink = SureSink;
     run(alloc, words, &mut source, &mut sink, shelf)
 }
