@@ -20,8 +20,8 @@ use Rattle.etp_desk.specs.States.{Opened, Opens, Filing, State, unopened, over, 
 use Rattle.etp_filing.specs.FileReplies.{accepted, goes_on, closes, closes_body, accepted_line}
 use Rattle.etp_reply.specs.Shelves.{KnownShelf}
 use Rattle.etp_reply.specs.Replies.{OpenReply, FirstReply, Replies, answered_line}
-use Rattle.etp_session.specs.Protocols.{ledger_protocol}
-use Rattle.etp_session.specs.Sessions.{items_from, items_of, Session}
+use Rattle.etp_serving.specs.Protocols.{ledger_protocol}
+use Rattle.etp_serving.specs.Sessions.{items_from, items_of, Session}
 use Rattle.etp_printed.specs.Printed.{WasRead, IsKept, HasState, GivesAgain}
 use Rattle.etp_printed.proofs.Kept.{with_files}
 use Rattle.etp_printed.proofs.PrintedLines.{line_then, file_line, printed_lines, body_goes_on}

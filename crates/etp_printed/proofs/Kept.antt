@@ -20,8 +20,8 @@ use Rattle.etp_filing.specs.Withdrawals as Withdrawals
 use Rattle.etp_filing.specs.Withdrawals.{WithdrawReply}
 use Rattle.etp_reply.specs.Shelves.{KnownShelf}
 use Rattle.etp_reply.specs.Replies.{LoadReply, unreached, loaded, missing, OpenReply, OpenedReply, FirstReply, Replies}
-use Rattle.etp_session.specs.Protocols.{ledger_protocol}
-use Rattle.etp_session.specs.Sessions.{Item, items_of, Session}
+use Rattle.etp_serving.specs.Protocols.{ledger_protocol}
+use Rattle.etp_serving.specs.Sessions.{Item, items_of, Session}
 use Rattle.etp_printed.specs.Printed.{WasRead, IsKept}
 
 -- the laws with other files

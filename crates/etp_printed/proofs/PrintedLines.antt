@@ -20,7 +20,7 @@ use Rattle.etp_items.proofs.TextLines.{lines_back}
 use Rattle.etp_ledger.specs.Files.{File}
 use Rattle.etp_show.specs.Printed.{printed}
 use Rattle.etp_filing.specs.FileReplies.{is_end, closes_body}
-use Rattle.etp_session.proofs.Parts.{to_last_newline-both}
+use Rattle.etp_serving.proofs.Parts.{to_last_newline-both}
 
 -- a plain line and what follows
 pub line_then : (w rest : List ℕ) → list_all is_text w ≡ true → length w ≤ 4096 → lines_of (w ++ 10 ∷ rest) ≡ whole w ∷ lines_of rest

@@ -10,8 +10,8 @@ use Rattle.etp_ledger.specs.Accepting.{AreAccepted}
 use Rattle.etp_show.specs.Printed.{printed_ledger}
 use Rattle.etp_desk.specs.States.{Opened, State, unopened, over, filing, stopped}
 use Rattle.etp_reply.specs.Shelves.{KnownShelf}
-use Rattle.etp_session.specs.Protocols.{ledger_protocol}
-use Rattle.etp_session.specs.Sessions.{items_of, Session}
+use Rattle.etp_serving.specs.Protocols.{ledger_protocol}
+use Rattle.etp_serving.specs.Sessions.{items_of, Session}
 
 -- the body of the file was read from lines
 pub record WasRead (count : ℕ) (file : File) : Type 0 where

@@ -1,12 +1,9 @@
-//! Sessions: lines of commands in, lines of answers out.
+//! The top call: what the words of the command line ask is done.
 #![tactic(auto)]
 
-mod loading;
-mod serving;
 mod top;
 
-pub use serving::{Ending, session};
-pub use top::{one_text, run, run_in_memory};
+pub use top::{run, run_in_memory};
 
 #[cfg(test)]
 mod tests;

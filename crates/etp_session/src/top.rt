@@ -1,25 +1,26 @@
 ghost use Rattle.std.specs.Prelude.{◌≡◌, ◌∷◌, [], ◌+◌, ◌-◌, ◌≤◌, ◌↔◌, ◌⊎◌, ℕ, List, Bool, false, true, map, vec_len, Some, IfSome, length};
 ghost use Rattle.std.specs.String.{string_bytes};
 ghost use Rattle.etp_io.specs.Causes.{Rose};
-ghost use Rattle.etp_command.specs.Arguments.{task_of, IsTask};
+ghost use Rattle.etp_arguments.specs.Arguments.{task_of, IsTask};
 ghost use Rattle.etp_command.specs.Values.{operations_of};
 ghost use Rattle.etp_tasks.specs.Listings.{WritesLaws};
 ghost use Rattle.etp_tasks.specs.Scripts.{IsScriptOf};
 ghost use Rattle.etp_tasks.specs.Searches.{IsSearchOf};
 ghost use Rattle.etp_tasks.specs.Writing.{WritesSome};
 ghost use Rattle.etp_demo.specs.Demos.{IsDemoOf};
-ghost use Rattle.etp_session.specs.Streams.{streams};
-ghost use Rattle.etp_session.specs.Protocols.{ledger_protocol};
-ghost use Rattle.etp_session.specs.Sessions.{IsSession, IsWholeSession};
-ghost use Rattle.etp_session.specs.SessionEnds.{SessionEnds};
+ghost use Rattle.etp_serving.specs.Streams.{streams};
+ghost use Rattle.etp_serving.specs.Protocols.{ledger_protocol};
+ghost use Rattle.etp_serving.specs.Sessions.{IsWholeSession};
+ghost use Rattle.etp_serving.specs.SessionEnds.{SessionEnds};
 ghost use Rattle.etp_io.specs.Kept.{kept_or_empty};
 ghost use Rattle.std.specs.declared.option.Option.{Option};
 ghost use Rattle.etp_reply.specs.Shelves.{known};
 
-use crate::serving::session;
-use etp_command::{ListOrder, Task, task_of};
+use etp_arguments::{Task, task_of};
+use etp_command::ListOrder;
 use etp_demo::write_demo;
 use etp_io::{Shelf, Sink, Source, SureShelf, SureSink, SureSource};
+use etp_serving::session;
 use etp_tasks::{Search, list_laws, write_script, write_search};
 use std::alloc::Global;
 
@@ -99,16 +100,6 @@ pub fn run<S: Source, K: Sink, H: Shelf>(
         Task::Unknown => 2,
     }
 }
-
-/// A session over bytes and a shelf that tells what it keeps has one text: two texts that it may
-/// have are equal, and both have a refusal line or neither has.
-pub fn one_text()
-    ensures { (limit : ℕ) (kept : List ℕ → Option (List ℕ)) (bytes text other : List ℕ)
-        (refused also : Bool)
-        → IsSession (ledger_protocol (known limit (Some kept))) bytes text refused
-        → IsSession (ledger_protocol (known limit (Some kept))) bytes other also
-        → (text ≡ other) × (refused ≡ also) }
-{}
 
 /// Does what the words ask over forms in memory that never fail: a source of these bytes, a sink
 /// that keeps nothing, and a shelf. The status is 0, 1 or 5; 1 only where the text of the bytes has

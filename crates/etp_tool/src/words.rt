@@ -1,8 +1,8 @@
 ghost use Rattle.std.specs.Prelude.{◌≡◌, ◌≤◌, ◌↔◌, map, IfOk};
 ghost use Rattle.std.specs.String.{string_bytes};
 ghost use Rattle.etp_io.specs.Causes.{Rose};
-ghost use Rattle.etp_command.specs.Arguments.{task_of};
-ghost use Rattle.etp_command.specs.declared.arguments.Task.TheVariants.{Unknown};
+ghost use Rattle.etp_arguments.specs.Arguments.{task_of};
+ghost use Rattle.etp_arguments.specs.declared.task.Task.TheVariants.{Unknown};
 
 use etp_io::{Shelf, Sink, Source};
 use etp_session::run;
