@@ -17,6 +17,3 @@ pub use written::written_theorems;
 pub fn check_theorems()
     ensures { CheckTheorems }
 {}
-
-#[cfg(test)]
-mod tests;

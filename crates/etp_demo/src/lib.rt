@@ -6,6 +6,3 @@ mod reading;
 mod summary;
 
 pub use summary::write_demo;
-
-#[cfg(test)]
-mod tests;

@@ -6,6 +6,3 @@ mod paths;
 mod why;
 
 pub use why::answer_why;
-
-#[cfg(test)]
-mod tests;

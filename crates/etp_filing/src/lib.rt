@@ -8,6 +8,3 @@ mod withdrawal;
 pub use accepting::answer_file;
 pub use filing::{Filing, closes_body, has_free_name, open_file, take_line};
 pub use withdrawal::answer_withdrawal;
-
-#[cfg(test)]
-mod tests;

@@ -22,6 +22,3 @@ pub fn generator_theorems()
 pub fn generator_examples()
     ensures { GeneratorExamples }
 {}
-
-#[cfg(test)]
-mod tests;

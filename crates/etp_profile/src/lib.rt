@@ -4,6 +4,3 @@
 mod profile;
 
 pub use profile::{answer_profile, table_of};
-
-#[cfg(test)]
-mod tests;

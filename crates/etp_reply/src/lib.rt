@@ -8,6 +8,3 @@ mod reply;
 pub use desk::Desk;
 pub use etp_filing::{Filing, take_line};
 pub use reply::{Outcome, respond, respond_at_end, respond_loaded};
-
-#[cfg(test)]
-mod tests;

@@ -12,6 +12,3 @@ pub use classes::{Classes, class_of, classes_of};
 pub use counts::{Counts, count_answers};
 pub use refusal::ReportRefusal;
 pub use row::{Row, row_of};
-
-#[cfg(test)]
-mod tests;

@@ -8,6 +8,3 @@ mod printed;
 pub use file::answer_files;
 pub use law::{answer_dual, answer_law, answer_number, append_law_line};
 pub use printed::{answer_ledger, append_printed};
-
-#[cfg(test)]
-mod tests;

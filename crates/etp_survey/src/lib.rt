@@ -10,6 +10,3 @@ pub use block::answer_csv;
 pub use classes::{answer_class, answer_classes};
 pub use pair::{answer_counts, answer_pair, append_pair};
 pub use row::answer_row;
-
-#[cfg(test)]
-mod tests;

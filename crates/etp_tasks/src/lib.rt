@@ -8,6 +8,3 @@ mod searching;
 pub use generating::write_script;
 pub use listing::list_laws;
 pub use searching::{Search, write_search};
-
-#[cfg(test)]
-mod tests;

@@ -1,8 +1,9 @@
+// Reports of a small closure.
 ghost use Rattle.std.specs.Prelude.{◌≡◌, length};
 ghost use Rattle.etp_theory.specs.LawNumbers.{IsLaw};
 
-use crate::{Counts, class_of, classes_of, count_answers, csv_block, row_of};
 use etp_closure::Closure;
+use etp_report::{Counts, class_of, classes_of, count_answers, csv_block, row_of};
 use std::alloc::AllocError;
 use std::rt::HostRuntime;
 

@@ -1,7 +1,7 @@
 use Rattle.std.proofs.Common.{◌≡◌, length, arith}
 use Rattle.std.proofs.lemmas.List.{length-map}
 use Rattle.etp_rules.specs.Rules.{rule_of, rules_of}
-use Rattle.etp_check.proofs.tests.has_rules.Goals as goal
+use Rattle.etp_calls.proofs.tests.checking.has_rules.Goals as goal
 
 pub returns : goal.returns
 returns c = λ yes.

@@ -1,9 +1,10 @@
+// Bodies of each kind checked.
 ghost use Rattle.std.specs.Prelude.{◌≡◌, ◌∷◌, [], IfOk, IsTrue};
 ghost use Rattle.etp_rules.specs.Rules.{rules_of};
 ghost use Rattle.etp_check.specs.Checks.{HasRules};
 
-use crate::{CheckRefusal, check, system_of};
 use etp_bits::Numbers;
+use etp_check::{CheckRefusal, check, system_of};
 use etp_closure::Fact;
 use etp_items::{Body, Claims, LinearBody, RulesBody};
 use etp_laws::Laws;

@@ -1,0 +1,6 @@
+// Each call once, on its happy path.
+mod checking;
+mod lines;
+mod queries;
+mod reports;
+mod tasks;
