@@ -2,4 +2,3 @@ pub mod TextLemmas
 pub mod GivenLemmas
 pub mod Values
 pub mod Commas
-pub mod NumberingLemmas

@@ -1,5 +1,4 @@
 pub mod Texts
-pub mod Numbering
 pub mod RulesTexts
 pub mod RefusalTexts
 pub mod EvidenceTexts

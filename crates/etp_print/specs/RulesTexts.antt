@@ -12,7 +12,7 @@ use Rattle.etp_rules.specs.declared.deciding.RulesRefusal.TheVariants.{WeightRan
 use Rattle.etp_pairs.specs.declared.refusal.PairsRefusal.{PairsRefusal}
 use Rattle.etp_pairs.specs.declared.refusal.PairsRefusal.TheVariants.{Unjoinable, TermLimit, StepLimit, NoMemory}
 use Rattle.etp_items.specs.Written.{position_word}
-use Rattle.etp_print.specs.Numbering.{variables_of, numbered_in}
+use Rattle.etp_numbering.specs.Numbering.{variables_of, numbered_in}
 
 -- what a weight of this number is called
 abbrev pub weight_name : ℕ → List ℕ

@@ -5,7 +5,6 @@ mod evidence;
 mod line;
 mod linear;
 mod matrix;
-mod numbering;
 mod refusal;
 mod rules;
 mod table;
@@ -18,7 +17,9 @@ pub use line::{begin_refusal, refuse, refuse_file, refuse_name, refuse_with};
 pub use linear::linear_text;
 pub use matrix::matrix_text;
 pub use refusal::{body_refusal_text, file_refusal_text, replay_text};
-pub use rules::{pairs_text, rules_text};
+pub use rules::{
+    append_forms, append_numbered_forms, append_place, append_rules_refusal, pairs_text, rules_text,
+};
 pub use table::table_text;
 
 #[cfg(test)]

@@ -7,8 +7,8 @@ ghost use Rattle.etp_text.specs.Written.{written_term};
 ghost use Rattle.etp_items.specs.Written.{side_letter, position_word};
 ghost use Rattle.etp_print.specs.RulesTexts.{weight_name, cause_text, rules_refusal, pair_place, forms_text, numbered_forms_text, pairs_refusal};
 
-use crate::numbering::{numbered_in, variables_of};
 use crate::refusal::append_with;
+use etp_numbering::number_anew;
 use etp_pairs::PairsRefusal;
 use etp_rules::{Cause, RulesRefusal};
 use etp_term::{Position, Side, Term};
@@ -39,11 +39,8 @@ fn append_cause(text: &mut Text, cause: Cause) -> Result<(), AllocError>
     }
 }
 
-// Appends why a weight or a rule isn't allowed.
-pub(crate) fn append_rules_refusal(
-    text: &mut Text,
-    refusal: &RulesRefusal,
-) -> Result<(), AllocError>
+/// Appends why a weight or a rule isn't allowed.
+pub fn append_rules_refusal(text: &mut Text, refusal: &RulesRefusal) -> Result<(), AllocError>
     ensures { OnOk result (text.new ≡ text.old ++ rules_refusal refusal.now) }
 {
     match refusal {
@@ -89,8 +86,8 @@ fn append_position(text: &mut Text, sides: &[Side]) -> Result<(), AllocError>
     append_letters(text, sides)
 }
 
-// Appends where two rules overlap.
-fn append_place(
+/// Appends where two rules overlap: the outer rule, the position in its left side, the inner rule.
+pub fn append_place(
     text: &mut Text,
     outer: u32,
     position: &Position,
@@ -127,12 +124,8 @@ pub(crate) fn append_with_term(text: &mut Text, words: &[u8], term: &Term) -> Re
     text.append_term(term)
 }
 
-// Appends two normal forms.
-pub(crate) fn append_forms(
-    text: &mut Text,
-    left_form: &Term,
-    right_form: &Term,
-) -> Result<(), AllocError>
+/// Appends two normal forms.
+pub fn append_forms(text: &mut Text, left_form: &Term, right_form: &Term) -> Result<(), AllocError>
     ensures { OnOk result (text.new ≡ text.old
         ++ forms_text (tree_of left_form.now) (tree_of right_form.now)) }
 {
@@ -140,8 +133,9 @@ pub(crate) fn append_forms(
     append_with_term(text, b" and ", right_form)
 }
 
-// Appends two normal forms with their variables numbered anew.
-fn append_numbered_forms(
+/// Appends two normal forms with their variables numbered anew, through the left one and then the
+/// right one.
+pub fn append_numbered_forms(
     alloc: Global,
     text: &mut Text,
     left_form: &Term,
@@ -150,10 +144,8 @@ fn append_numbered_forms(
     ensures { OnOk result (text.new ≡ text.old
         ++ numbered_forms_text (tree_of left_form.now) (tree_of right_form.now)) }
 {
-    let variables = variables_of(alloc, left_form, right_form)?;
-    let left = numbered_in(alloc, variables.as_slice(), left_form)?;
-    let right = numbered_in(alloc, variables.as_slice(), right_form)?;
-    append_forms(text, &left, &right)
+    let forms = number_anew(alloc, left_form, right_form)?;
+    append_forms(text, &forms.first, &forms.second)
 }
 
 // Appends why rules aren't convergent.

@@ -1,6 +1,7 @@
 use Rattle.std.specs.Prelude.{codes, decimal}
 use Rattle.etp_print.specs.RefusalTexts.{step_place}
-use Rattle.etp_print.proofs.TextLemmas.{OnOk-then, four-parts}
+use Rattle.etp_numbering.proofs.Results.{OnOk-then}
+use Rattle.etp_print.proofs.TextLemmas.{four-parts}
 use Rattle.etp_print.proofs.refusal.append_replay_refusal.Goals as goal
 
 pub returns-in-OutsideChanged : goal.returns-in-OutsideChanged

@@ -1,6 +1,6 @@
 use Rattle.std.proofs.Common.{List, ℕ, ◌++◌, ◌∙◌, ap, append_assoc, codes, decimal}
 use Rattle.etp_print.specs.RulesTexts.{cause_text}
-use Rattle.etp_print.proofs.TextLemmas.{OnOk-then}
+use Rattle.etp_numbering.proofs.Results.{OnOk-then}
 use Rattle.etp_print.proofs.rules.append_rules_refusal.Goals as goal
 
 pub returns-in_ok-append_with-in-NotDecreasing : goal.returns-in_ok-append_with-in-NotDecreasing

@@ -1,5 +1,6 @@
 use Rattle.std.proofs.Common.{rules, codes, decimal}
-use Rattle.etp_print.proofs.TextLemmas.{four-parts, OnOk-then}
+use Rattle.etp_numbering.proofs.Results.{OnOk-then}
+use Rattle.etp_print.proofs.TextLemmas.{four-parts}
 use Rattle.etp_print.proofs.table.append_counts.Goals as goal
 
 pub returns : goal.returns

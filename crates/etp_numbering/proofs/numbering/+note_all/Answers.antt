@@ -3,9 +3,9 @@ use Rattle.etp_theory.specs.Trees.{op, word_of}
 use Rattle.etp_term.specs.Terms.{tree_of}
 use Rattle.etp_term.proofs.Opened.{tree_of-op}
 use Rattle.etp_laws.specs.Occurrences.{seen_all}
-use Rattle.etp_print.proofs.TextLemmas.{OnOk-then}
-use Rattle.etp_print.proofs.NumberingLemmas.{seen_all-append}
-use Rattle.etp_print.proofs.numbering.+note_all.Goals as goal
+use Rattle.etp_numbering.proofs.Results.{OnOk-then}
+use Rattle.etp_numbering.proofs.NumberingLemmas.{seen_all-append}
+use Rattle.etp_numbering.proofs.numbering.+note_all.Goals as goal
 
 pub returns-in_ok-note_all-in-Op-clause-seen : goal.returns-in_ok-note_all-in-Op-clause-seen
 returns-in_ok-note_all-in-Op-clause-seen t c =

@@ -6,7 +6,7 @@ use Rattle.std.proofs.lemmas.List.Folds.{list_any-append}
 use Rattle.std.proofs.lemmas.Map.Steps.{length-le_from_distinct_below}
 use Rattle.etp_laws.specs.Occurrences.{place, seen_after, seen_all}
 use Rattle.etp_laws.proofs.Occurrences.{place_at_most, after_new}
-use Rattle.etp_print.specs.Numbering.{AreApart}
+use Rattle.etp_numbering.specs.Numbering.{AreApart}
 
 -- one word behind the other
 pub seen_all-append : (s u w : List ℕ) → seen_all s (u ++ w) ≡ seen_all (seen_all s u) w

@@ -1,7 +1,7 @@
 use Rattle.std.proofs.Common.{rules, ◌≡◌, ◌<◌, ◌==◌, None, position, sym, subst, ◌∙◌}
-use Rattle.etp_print.specs.Numbering.{AreApart}
-use Rattle.etp_print.proofs.NumberingLemmas.{seen_now, apart_more}
-use Rattle.etp_print.proofs.numbering.note.Goals as goal
+use Rattle.etp_numbering.specs.Numbering.{AreApart}
+use Rattle.etp_numbering.proofs.NumberingLemmas.{seen_now, apart_more}
+use Rattle.etp_numbering.proofs.numbering.note.Goals as goal
 
 pub returns-in_ok-push-in-None-clause-seen : goal.returns-in_ok-push-in-None-clause-seen
 returns-in_ok-push-in-None-clause-seen c =

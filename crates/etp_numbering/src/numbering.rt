@@ -1,21 +1,37 @@
 // Variables numbered anew, in the order in which they first come through two terms.
-ghost use Rattle.std.specs.Prelude.{◌≡◌, ◌≤◌, ◌++◌, ◌==◌, IfOk, OnOk, length, position};
-ghost use Rattle.etp_theory.specs.Trees.{word_of};
+ghost use Rattle.std.specs.Prelude.{◌≡◌, ◌≤◌, ◌+◌, ◌++◌, ◌==◌, IfOk, OnOk, length, position};
+ghost use Rattle.etp_theory.specs.Trees.{word_of, leaves};
 ghost use Rattle.etp_term.specs.Terms.{tree_of};
 ghost use Rattle.etp_laws.specs.Occurrences.{seen_after, seen_all};
-ghost use Rattle.etp_print.specs.Numbering.{AreApart};
-ghost use Rattle.etp_print.specs.Numbering as Numbering;
+ghost use Rattle.etp_numbering.specs.Numbering.{AreApart, AreNumberedAnew, HaveFew};
+ghost use Rattle.etp_numbering.specs.Numbering as Numbering;
 
 use etp_term::Term;
 use sqlite_items::Boxed;
 use std::alloc::{AllocError, Global};
 
-// The variables of the first term and then those of the second, each once, as they first come.
-pub(crate) fn variables_of(
-    alloc: Global,
-    first: &Term,
-    second: &Term,
-) -> Result<Vec<u8>, AllocError>
+/// Two terms whose variables are numbered anew.
+pub struct Numbered {
+    pub first: Term,
+    pub second: Term,
+}
+
+/// Both terms with their variables numbered in the order in which they first come, through the first
+/// term and then the second.
+pub fn number_anew(alloc: Global, first: &Term, second: &Term) -> Result<Numbered, AllocError>
+    ensures numbered { IfOk result
+        (AreNumberedAnew (tree_of first.now) (tree_of second.now)) }
+    ensures few { IfOk result
+        (HaveFew (leaves (tree_of first.now) + leaves (tree_of second.now))) }
+{
+    let variables = variables_of(alloc, first, second)?;
+    let first = numbered_in(alloc, variables.as_slice(), first)?;
+    let second = numbered_in(alloc, variables.as_slice(), second)?;
+    Ok(Numbered { first, second })
+}
+
+/// The variables of the first term and then those of the second, each once, as they first come.
+pub fn variables_of(alloc: Global, first: &Term, second: &Term) -> Result<Vec<u8>, AllocError>
     ensures variables { IfOk result (λ seen.
         seen.items ≡ Numbering.variables_of (tree_of first.now) (tree_of second.now)) }
     ensures few { IfOk result (λ seen. length seen.items ≤ 256) }
@@ -72,8 +88,8 @@ fn place_in(variables: &[u8], variable: u8) -> u8
     position_of(variables, variable).unwrap_or(0) as u8
 }
 
-// The term with each variable replaced by its place in the list.
-pub(crate) fn numbered_in(alloc: Global, variables: &[u8], term: &Term) -> Result<Term, AllocError>
+/// The term with each variable replaced by its place in the list.
+pub fn numbered_in(alloc: Global, variables: &[u8], term: &Term) -> Result<Term, AllocError>
     requires { length variables.now ≤ 256 }
     ensures { IfOk result (λ t. tree_of t
         ≡ Numbering.numbered_in variables.now (tree_of term.now)) }

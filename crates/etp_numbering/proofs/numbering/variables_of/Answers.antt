@@ -2,9 +2,9 @@ use Rattle.std.proofs.Common.{List, ℕ, [], sym, subst, ap, ◌∙◌}
 use Rattle.etp_theory.specs.Trees.{word_of}
 use Rattle.etp_term.specs.Terms.{tree_of}
 use Rattle.etp_laws.specs.Occurrences.{seen_all}
-use Rattle.etp_print.specs.Numbering.{AreApart}
-use Rattle.etp_print.proofs.NumberingLemmas.{none_apart, few_apart, seen_all-append}
-use Rattle.etp_print.proofs.numbering.variables_of.Goals as goal
+use Rattle.etp_numbering.specs.Numbering.{AreApart}
+use Rattle.etp_numbering.proofs.NumberingLemmas.{none_apart, few_apart, seen_all-append}
+use Rattle.etp_numbering.proofs.numbering.variables_of.Goals as goal
 
 pub note_all-requires : goal.note_all-requires
 note_all-requires c = subst AreApart (sym c.new-seen.ensures.items) none_apart
