@@ -11,6 +11,7 @@ use sqlite_items::Boxed;
 use std::alloc::{AllocError, Global};
 
 /// Two terms whose variables are numbered anew.
+#[derive(Drop)]
 pub struct Numbered {
     pub first: Term,
     pub second: Term,
