@@ -1,0 +1,5 @@
+pub mod FiniteMagmas
+pub mod Cancelling
+pub mod FiniteFacts
+pub mod Theorems
+pub mod Examples
