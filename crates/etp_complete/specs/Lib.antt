@@ -1,0 +1,4 @@
+pub mod Completions
+pub mod Answers
+pub mod Derived
+pub mod Rounds
