@@ -13,6 +13,7 @@ use Rattle.etp_rules.specs.declared.rule.Rule.{Rule}
 use Rattle.etp_rules.specs.declared.system.RuleSystem.{RuleSystem}
 use Rattle.etp_rules.specs.declared.deciding.Cause.{Cause}
 use Rattle.etp_rules.specs.declared.deciding.Cause.TheVariants.{Variable, Constant}
+use Rattle.etp_rules.specs.declared.deciding.RulesRefusal.{RulesRefusal}
 use Rattle.etp_rules.specs.declared.deciding.RulesRefusal.TheVariants.{NotDecreasing, SideTooLarge}
 use Rattle.etp_numbering.specs.Numbering.{variables_of, place_in, AreNumberedAnew, HaveFew}
 use Rattle.etp_numbering.specs.declared.numbering.Numbered.{Numbered}
@@ -35,6 +36,11 @@ rule_is s t n a rule l r i = record { left = (ap tree_of l ∙ a.first) i; right
 
 pub longer_is : (rules more : List Rule) (rule : Rule) (s t : Tree) → more ≡ rules ++ rule ∷ [] → rule_of rule ≡ rule_from s t → rules_of more ≡ rules_of rules ++ rule_from s t ∷ []
 longer_is rules more rule s t e r = ap rules_of e ∙ one_rule_more rules rule ∙ ap (λ x. rules_of rules ++ x ∷ []) r
+
+pub more_rules : (rules copied pushed : List Rule) (n : Numbered) (s t : Tree) → AreNumberedAnew s t n → copied ≡ rules → (let rule : Rule = record { left = n.first; right = n.second } in pushed ≡ copied ++ rule ∷ []) → rules_of pushed ≡ rules_of rules ++ rule_from s t ∷ []
+more_rules rules copied pushed n s t a same e =
+    let rule : Rule = record { left = n.first; right = n.second } in
+    longer_is rules pushed rule s t (e ∙ ap (λ (xs : List Rule). xs ++ rule ∷ []) same) (rule_is s t n a rule refl refl)
 
 few_variables : (s t u : Tree) → ops s ≤ 12 → ops t ≤ 12 → bound u ≤ leaves s + leaves t → bound u ≤ 64
 few_variables s t u k l h = omega (arith, k, l, h, term_theorems.leaves_ops s, term_theorems.leaves_ops t)
@@ -80,3 +86,15 @@ module _ (w : Weight) (rules : List Equation) (s t : Tree) where
           let left_few : ops f.rule.left ≤ 12 = omega (arith, k, left_ops s t, ap (λ (x : Equation). ops x.left) e) in
           let right_few : ops f.rule.right ≤ 12 = omega (arith, l, right_ops s t, ap (λ (x : Equation). ops x.right) e) in
           too_large (ops f.rule.left) (ops f.rule.right) f.refused.1 left_few right_few
+
+  -- so the program's refusals say
+
+  pub refused_rule : (more : List Equation) (x : RulesRefusal) (number : ℕ) (cause : Cause) → more ≡ rules ++ rule_from s t ∷ [] → AreAllowed w rules → x ≡ NotDecreasing number cause → IsRefused w more x → IsInRange w × (¬ IsDecreasing w (rule_from s t))
+  refused_rule more x number cause e allowed is h =
+      let r = subst (IsRefused w more) is h in
+      (r.0, not_decreasing number cause allowed (subst (λ xs. IsFirstRefused w xs (NotDecreasing number cause)) e r.1))
+
+  pub refused_size : (more : List Equation) (x : RulesRefusal) (number : ℕ) → more ≡ rules ++ rule_from s t ∷ [] → AreAllowed w rules → ops s ≤ 12 → ops t ≤ 12 → x ≡ SideTooLarge number → IsRefused w more x → ⊥
+  refused_size more x number e allowed k l is h =
+      let r = subst (IsRefused w more) is h in
+      not_too_large number allowed k l (subst (λ xs. IsFirstRefused w xs (SideTooLarge number)) e r.1)

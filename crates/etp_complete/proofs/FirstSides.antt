@@ -3,11 +3,12 @@
 use Rattle.std.proofs.Common.{◌≡◌, ◌≢◌, ℕ, zero, suc, ◌+◌, ◌<◌, ◌≤◌, ◌⊎◌, inl, inr, List, [], ◌∷◌, Option, Some, None, slice_get, refl, sym, ap, ap₂, ◌∙◌, subst, arith}
 use Rattle.std.specs.Ordering.{nat_cmp, ordering_then}
 use Rattle.std.specs.Cmp.{nat_cmp_is}
-use Rattle.std.specs.List.{AllByRecursion}
 use Rattle.std.specs.List.Sorted.{IsStrictlySortedBy}
 use Rattle.std.specs.declared.cmp.Ordering.{Ordering}
 use Rattle.std.specs.declared.cmp.Ordering.TheVariants.{Less, Equal, Greater}
-use Rattle.std.proofs.lemmas.Option.{same_Some, slice_get_within}
+use Rattle.std.proofs.lemmas.List.Elements.{All-contains}
+use Rattle.std.proofs.lemmas.Map.Views.{All-after_first}
+use Rattle.std.proofs.lemmas.Option.{slice_get_within, get_or_from_slice_get}
 use Rattle.etp_theory.specs.Trees.{Tree, var, op, ops, leaves, law_ops, Equation}
 use Rattle.etp_theory.specs.Orders.{law_cmp}
 use Rattle.etp_theory.specs.LawNumbers.{law_numbered}
@@ -41,14 +42,10 @@ none_before (op a b) r h = above (law_ops (record { left = op a b; right = r }))
 
 -- so it is the first of the list
 
-inside : (P : Equation → Type 0) (xs : List Equation) (k : ℕ) (e : Equation) → AllByRecursion P xs → slice_get xs k ≡ Some e → P e
-inside P [] k e a h = absurd (let l : k < 0 = slice_get_within [] k e h in omega (arith, l))
-inside P (x ∷ xs) zero e a h = subst P (same_Some x e h) a.0
-inside P (x ∷ xs) (suc k) e a h = inside P xs k e a.1 h
-
 earlier : (xs : List Equation) (k : ℕ) (e : Equation) → IsStrictlySortedBy law_cmp xs → slice_get xs (suc k) ≡ Some e → (x : Equation) × (law_cmp x e ≡ Less)
 earlier [] k e s h = absurd (let l : suc k < 0 = slice_get_within [] (suc k) e h in omega (arith, l))
-earlier (x ∷ xs) k e s h = (x, inside (λ y. law_cmp x y ≡ Less) xs k e s.0 h)
+earlier (x ∷ xs) k e s h =
+    (x, All-contains (λ y. law_cmp x y ≡ Less) xs e (All-after_first law_cmp x xs s) (k, slice_get_within xs k e h, get_or_from_slice_get xs k e e h))
 
 pub sides_differ : (order : ℕ) (laws : List Equation) (n : ℕ) (e : Equation) → IsTheList order laws → 2 ≤ n → law_numbered laws n ≡ Some e → e.left ≢ e.right
 sides_differ order laws zero e list l h = absurd (omega (arith, l))

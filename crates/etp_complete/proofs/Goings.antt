@@ -1,5 +1,5 @@
 -- How a problem goes on after what is made of two forms, and after a round.
-use Rattle.std.proofs.Common.{◌≡◌, ◌≢◌, ℕ, ◌+◌, ◌<◌, ◌≤◌, ◌⊎◌, inl, inr, List, [], ◌∷◌, ◌++◌, length, refl, sym, ap, ◌∙◌, subst, arith, length-append}
+use Rattle.std.proofs.Common.{◌≡◌, ◌≢◌, ℕ, ◌+◌, ◌<◌, ◌≤◌, ◌⊎◌, inl, inr, List, [], ◌∷◌, ◌++◌, length, Some, refl, sym, ap, ◌∙◌, subst, arith, length-append}
 use Rattle.etp_theory.specs.Trees.{Tree, ops, Equation}
 use Rattle.etp_theory.specs.Weights.{Weight}
 use Rattle.etp_theory.specs.Overlaps.{IsConvergent}
@@ -130,7 +130,7 @@ first_goes_on p order law rules left right round list known proper listed none l
     let right_few : ops (tree_of right) ≤ 5 = omega (arith, ap ops r, small.right_ops) in
     subst (λ (xs : List Rule). GoesOn p.weight (rules_of xs) (Law p.from) (tree_of left) (tree_of right) round) none h p refl at_first (refl, fails) (λ k. absurd (never left_few right_few k))
   where
-    never : ops (tree_of left) ≤ 5 → ops (tree_of right) ≤ 5 → (0 ≡ 64) ⊎ ((12 < ops (tree_of left)) ⊎ (12 < ops (tree_of right))) → ⊥
+    never : ops (tree_of left) ≤ 5 → ops (tree_of right) ≤ 5 → (◌≡◌ {A = ℕ} 0 64) ⊎ ((12 < ops (tree_of left)) ⊎ (12 < ops (tree_of right))) → ⊥
     never a b (inl e) = omega (arith, e)
     never a b (inr (inl h)) = omega (arith, a, h)
     never a b (inr (inr h)) = omega (arith, b, h)

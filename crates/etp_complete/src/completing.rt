@@ -33,6 +33,7 @@ pub fn complete(
     ensures joined { IfOk result (λ c. IfJoined c (Implies laws.now.equations from target)) }
     ensures derived { IfOk result (HasDerivedRules laws.now.equations from) }
 {
+    let _order = laws.order();
     let asked = Question {
         from,
         target,

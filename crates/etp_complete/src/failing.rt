@@ -2,6 +2,7 @@
 ghost use Rattle.std.specs.Prelude.{◌≡◌, Some, IsSome, IfOk};
 ghost use Rattle.etp_theory.specs.LawNumbers.{law_numbered};
 ghost use Rattle.etp_term.specs.Laws.{equation_of};
+ghost use Rattle.etp_laws.specs.Listing.{IsTheList};
 ghost use Rattle.etp_rules.specs.Rules.{rules_of};
 ghost use Rattle.etp_rules.specs.Weighing as Weighing;
 ghost use Rattle.etp_rules.specs.Deciding.{weight_in};
@@ -68,7 +69,8 @@ pub(crate) fn first_failing(
 /// The law of a listed number.
 pub(crate) fn listed(laws: &Laws, number: u32) -> &Law
     requires { IsSome (law_numbered laws.now.equations number) }
-    ensures { law_numbered laws.now.equations number ≡ Some (equation_of result.now) }
+    ensures law { law_numbered laws.now.equations number ≡ Some (equation_of result.now) }
+    ensures list { IsTheList laws.now.order laws.now.equations }
 {
     match laws.law(number) {
         Some(law) => law,
