@@ -1,9 +1,9 @@
 -- What the rules of a run say is derived from its law.
-use Rattle.std.proofs.Common.{◌≡◌, ◌≢◌, ℕ, zero, suc, ◌<◌, ◌⊎◌, inl, inr, List, [], ◌∷◌, ◌++◌, length, Option, Some, None, slice_get, refl, sym, ap, ◌∙◌, subst, subst₂, arith}
+use Rattle.std.proofs.Common.{◌≡◌, ℕ, zero, suc, ◌<◌, ◌⊎◌, inl, inr, List, [], Option, Some, None, slice_get, refl, sym, ap, ◌∙◌, subst, subst₂, arith}
 use Rattle.std.proofs.lemmas.Option.{same_Some, slice_get_within}
-use Rattle.etp_theory.specs.Trees.{Tree, op, Equation}
+use Rattle.etp_theory.specs.Trees.{Tree, Equation}
 use Rattle.etp_theory.specs.Substitutions.{apply, raise}
-use Rattle.etp_theory.specs.Positions.{sub_at, put_at}
+use Rattle.etp_theory.specs.Positions.{sub_at}
 use Rattle.etp_theory.specs.Derivations.{Concludes, reflexive, symmetric, transitive, congruent, Derives}
 use Rattle.etp_theory.specs.Rewriting.{Step, at_root, in_left, in_right}
 use Rattle.etp_theory.specs.Strategy.{next, go_on, walk}

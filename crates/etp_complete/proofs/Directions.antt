@@ -1,5 +1,5 @@
 -- The rule from one term to another among a system's rules.
-use Rattle.std.proofs.Common.{◌≡◌, ◌≢◌, ℕ, ◌+◌, ◌<◌, ◌≤◌, ◌⊎◌, inl, inr, List, [], ◌∷◌, ◌++◌, length, Some, slice_get, refl, sym, ap, ap₂, ◌∙◌, subst, subst₂, arith}
+use Rattle.std.proofs.Common.{◌≡◌, ℕ, ◌+◌, ◌<◌, ◌≤◌, ◌⊎◌, inl, inr, List, [], ◌∷◌, ◌++◌, length, Some, slice_get, refl, ap, ◌∙◌, subst, arith}
 use Rattle.etp_theory.specs.Trees.{Tree, ops, leaves, bound, Equation}
 use Rattle.etp_theory.specs.Overlaps.{HasSmallVariables}
 use Rattle.etp_theory.specs.Weights.{Weight, IsDecreasing}
@@ -8,7 +8,7 @@ use Rattle.etp_term.specs.Terms.{tree_of}
 use Rattle.etp_rules.specs.Rules.{rule_of, rules_of}
 use Rattle.etp_rules.specs.Weighing as Weighing
 use Rattle.etp_rules.specs.Systems.{IsSystem}
-use Rattle.etp_rules.specs.Deciding.{IsInRange, IsCause, IsAllowed, AreAllowed, IsFirstRefused, IsRefused}
+use Rattle.etp_rules.specs.Deciding.{IsInRange, IsCause, AreAllowed, IsFirstRefused, IsRefused}
 use Rattle.etp_rules.specs.declared.rule.Rule.{Rule}
 use Rattle.etp_rules.specs.declared.system.RuleSystem.{RuleSystem}
 use Rattle.etp_rules.specs.declared.deciding.Cause.{Cause}
@@ -18,7 +18,7 @@ use Rattle.etp_rules.specs.declared.deciding.RulesRefusal.TheVariants.{NotDecrea
 use Rattle.etp_numbering.specs.Numbering.{variables_of, place_in, AreNumberedAnew, HaveFew}
 use Rattle.etp_numbering.specs.declared.numbering.Numbered.{Numbered}
 use Rattle.etp_complete.specs.Completions.{rule_from}
-use Rattle.etp_complete.specs.Rounds.{IsDirected, IsSystemOf}
+use Rattle.etp_complete.specs.Rounds.{IsDirected}
 use Rattle.etp_complete.specs.declared.growing.Directed.TheVariants.{Decreasing}
 use Rattle.etp_complete.proofs.Lists.{at_end, which, small_more, one_rule_more, ops_renamed}
 

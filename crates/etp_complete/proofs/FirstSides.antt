@@ -1,6 +1,6 @@
 -- A listed law that isn't the first has two different sides, which are their own normal forms where
 -- there are no rules.
-use Rattle.std.proofs.Common.{◌≡◌, ◌≢◌, ℕ, zero, suc, ◌+◌, ◌<◌, ◌≤◌, ◌⊎◌, inl, inr, List, [], ◌∷◌, Option, Some, None, slice_get, refl, sym, ap, ap₂, ◌∙◌, subst, arith}
+use Rattle.std.proofs.Common.{◌≡◌, ◌≢◌, ℕ, zero, suc, ◌<◌, ◌≤◌, ◌⊎◌, inl, inr, List, [], ◌∷◌, Some, None, slice_get, refl, sym, ap, ap₂, ◌∙◌, subst, arith}
 use Rattle.std.specs.Ordering.{nat_cmp, ordering_then}
 use Rattle.std.specs.Cmp.{nat_cmp_is}
 use Rattle.std.specs.List.Sorted.{IsStrictlySortedBy}
@@ -9,10 +9,10 @@ use Rattle.std.specs.declared.cmp.Ordering.TheVariants.{Less, Equal, Greater}
 use Rattle.std.proofs.lemmas.List.Elements.{All-contains}
 use Rattle.std.proofs.lemmas.Map.Views.{All-after_first}
 use Rattle.std.proofs.lemmas.Option.{slice_get_within, get_or_from_slice_get}
-use Rattle.etp_theory.specs.Trees.{Tree, var, op, ops, leaves, law_ops, Equation}
+use Rattle.etp_theory.specs.Trees.{Tree, var, op, leaves, law_ops, Equation}
 use Rattle.etp_theory.specs.Orders.{law_cmp}
 use Rattle.etp_theory.specs.LawNumbers.{law_numbered}
-use Rattle.etp_theory.specs.Strategy.{next, first_some, within, walk}
+use Rattle.etp_theory.specs.Strategy.{next, first_some, within}
 use Rattle.etp_theory.specs.Forms.{IsFormOf}
 use Rattle.etp_theory.specs.FailingOverlaps.{two_forms}
 use Rattle.etp_theory.proofs.Convergent.{walk_stays}

@@ -1,8 +1,6 @@
 -- How a problem goes on after what is made of two forms, and after a round.
-use Rattle.std.proofs.Common.{◌≡◌, ◌≢◌, ℕ, ◌+◌, ◌<◌, ◌≤◌, ◌⊎◌, inl, inr, List, [], ◌∷◌, ◌++◌, length, Some, refl, sym, ap, ◌∙◌, subst, arith, length-append}
+use Rattle.std.proofs.Common.{◌≡◌, ℕ, ◌<◌, ◌≤◌, ◌⊎◌, inl, inr, List, [], ◌∷◌, ◌++◌, length, Some, refl, sym, ap, ◌∙◌, subst, arith, length-append}
 use Rattle.etp_theory.specs.Trees.{Tree, ops, Equation}
-use Rattle.etp_theory.specs.Weights.{Weight}
-use Rattle.etp_theory.specs.Overlaps.{IsConvergent}
 use Rattle.etp_theory.specs.FailingOverlaps.{two_forms, term_limit, step_limit}
 use Rattle.etp_theory.specs.LawNumbers.{law_numbered}
 use Rattle.etp_term.specs.Terms.{tree_of}
@@ -10,22 +8,18 @@ use Rattle.etp_term.specs.declared.term.Term.{Term}
 use Rattle.etp_laws.specs.Listing.{IsTheList}
 use Rattle.etp_laws.proofs.SmallLaws.{listed_small}
 use Rattle.etp_rules.specs.Rules.{rules_of}
-use Rattle.etp_rules.specs.Weighing as Weighing
 use Rattle.etp_rules.specs.Systems.{IsSystem}
 use Rattle.etp_rules.specs.Deciding.{weight_in, IsInRange, IsFirstOut}
 use Rattle.etp_rules.specs.declared.rule.Rule.{Rule}
 use Rattle.etp_rules.specs.declared.system.RuleSystem.{RuleSystem}
-use Rattle.etp_pairs.specs.Refusals.{IsRefused}
-use Rattle.etp_pairs.specs.declared.refusal.PairsRefusal.{PairsRefusal}
-use Rattle.etp_canonical.specs.Judgements.{LawHolds, LawFails, IsFoundOf, IsFormOfBoth}
-use Rattle.etp_items.specs.declared.body.RulesBody.{RulesBody}
-use Rattle.etp_complete.specs.Completions.{Problem, weight_of, FailsFirst, Orients, AreSmall, rule_limit, side_limit, ComesTo, at_first, by_round, IsComplete}
-use Rattle.etp_complete.specs.Answers.{EndsWith, IsAnswer, out_of_range, by_run, on_the_way, in_the_end}
+use Rattle.etp_canonical.specs.Judgements.{IsFoundOf}
+use Rattle.etp_complete.specs.Completions.{Problem, weight_of, FailsFirst, Orients, rule_limit, side_limit, at_first, by_round}
+use Rattle.etp_complete.specs.Answers.{EndsWith, IsAnswer, out_of_range, by_run, on_the_way}
 use Rattle.etp_complete.specs.Rounds.{IsGrown, GiveNone, AreLarge, CanRange, IsReached, IsNext, GoesOn}
 use Rattle.etp_complete.specs.declared.answer.Origin.{Origin}
 use Rattle.etp_complete.specs.declared.answer.Origin.TheVariants.{Law}
 use Rattle.etp_complete.specs.declared.answer.Completed.{Completed}
-use Rattle.etp_complete.specs.declared.answer.Completed.TheVariants.{Done, Joined, WeightRange, Unorientable, SideTooLarge, TermLimit, StepLimit, Budget}
+use Rattle.etp_complete.specs.declared.answer.Completed.TheVariants.{WeightRange, Unorientable, SideTooLarge, TermLimit, StepLimit, Budget}
 use Rattle.etp_complete.specs.declared.rounds.Round.{Round}
 use Rattle.etp_complete.specs.declared.rounds.Round.TheVariants.{Grown, Ended}
 use Rattle.etp_complete.proofs.FirstSides.{first_forms}

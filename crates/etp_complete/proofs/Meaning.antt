@@ -1,12 +1,11 @@
 -- What the answers of a completion mean.
-use Rattle.std.proofs.Common.{◌≡◌, ◌≢◌, ℕ, zero, suc, ◌+◌, ◌<◌, ◌≤◌, ◌⊎◌, inl, inr, List, [], ◌∷◌, ◌++◌, length, Some, slice_get, refl, sym, ap, ◌∙◌, subst, arith, length-append}
+use Rattle.std.proofs.Common.{◌≡◌, ◌≢◌, ◌<◌, ◌≤◌, ◌⊎◌, inl, inr, List, [], ◌∷◌, length, Some, slice_get, sym, ap, ◌∙◌, subst, arith, length-append}
 use Rattle.std.proofs.lemmas.List.{length-map}
 use Rattle.std.proofs.lemmas.List.Elements.{All-cons, All-nil}
-use Rattle.std.proofs.lemmas.Option.{same_Some, slice_get_within}
+use Rattle.std.proofs.lemmas.Option.{slice_get_within}
 use Rattle.std.specs.Prelude.{All}
-use Rattle.etp_theory.specs.Trees.{Tree, ops, Equation}
+use Rattle.etp_theory.specs.Trees.{Tree, Equation}
 use Rattle.etp_theory.specs.Derivations.{symmetric, transitive}
-use Rattle.etp_theory.specs.Weights.{Weight}
 use Rattle.etp_theory.specs.Overlaps.{IsConvergent}
 use Rattle.etp_theory.specs.RightFacts.{Implies, Refutes}
 use Rattle.etp_theory.specs.LawNumbers.{law_numbered}
@@ -14,11 +13,11 @@ use Rattle.etp_theory.proofs.Convergent.{refuted_within}
 use Rattle.etp_term.specs.Terms.{tree_of}
 use Rattle.etp_rules.specs.Rules.{rule_of, rules_of}
 use Rattle.etp_rules.specs.Deciding.{weight_in, IsInRange, IsAllowed, AreAllowed}
-use Rattle.etp_canonical.specs.Judgements.{LawHolds, LawFails, IsJudged}
+use Rattle.etp_canonical.specs.Judgements.{LawHolds, LawFails}
 use Rattle.etp_items.specs.Bodies as Bodies
 use Rattle.etp_items.specs.declared.body.RulesBody.{RulesBody}
-use Rattle.etp_complete.specs.Completions.{Problem, weight_of, Orients, forth, back, AreSmall, ComesTo, at_first, by_round, IsComplete}
-use Rattle.etp_complete.specs.Answers.{IsDone, IsJoined, IsRun, EndsWith, IsAnswer, out_of_range, by_run}
+use Rattle.etp_complete.specs.Completions.{Problem, weight_of, Orients, forth, back, AreSmall, ComesTo, at_first, by_round}
+use Rattle.etp_complete.specs.Answers.{IsDone, IsJoined, EndsWith, IsAnswer, out_of_range, by_run}
 use Rattle.etp_complete.specs.Derived.{AreDerived, rules_in, HasDerivedRules, IsValidSystem, IfDone, IfJoined}
 use Rattle.etp_complete.specs.declared.answer.Completed.{Completed}
 use Rattle.etp_complete.specs.declared.answer.Completed.TheVariants.{Done, Joined, WeightRange, Unorientable, SideTooLarge, TermLimit, StepLimit, Budget}

@@ -2,7 +2,6 @@
 use Rattle.std.specs.Prelude.{ℕ, ◌≡◌, ◌≤◌, List, [], Some, length, slice_get}
 use Rattle.etp_theory.specs.Trees.{Equation}
 use Rattle.etp_theory.specs.Derivations.{Derives}
-use Rattle.etp_theory.specs.RightFacts.{Implies, Refutes}
 use Rattle.etp_theory.specs.LawNumbers.{law_numbered}
 use Rattle.etp_theory.specs.Overlaps.{IsConvergent}
 use Rattle.etp_rules.specs.Rules.{rules_of}

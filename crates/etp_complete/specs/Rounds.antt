@@ -1,5 +1,5 @@
 -- What the program makes of two normal forms, and what a round comes to. No public clause cites it.
-use Rattle.std.specs.Prelude.{ℕ, ◌≡◌, ◌+◌, ◌<◌, ◌≤◌, ◌⊎◌, List, [], ◌∷◌, ◌++◌, length}
+use Rattle.std.specs.Prelude.{ℕ, ◌≡◌, ◌+◌, ◌<◌, ◌⊎◌, List, [], ◌∷◌, ◌++◌, length}
 use Rattle.etp_theory.specs.Trees.{Tree, Equation, ops}
 use Rattle.etp_theory.specs.Weights.{Weight, IsDecreasing}
 use Rattle.etp_theory.specs.FailingOverlaps.{two_forms, term_limit, step_limit}
@@ -8,11 +8,10 @@ use Rattle.etp_rules.specs.Rules.{rules_of}
 use Rattle.etp_rules.specs.Weighing as Weighing
 use Rattle.etp_rules.specs.Deciding.{weight_in, IsInRange, IsFirstOut}
 use Rattle.etp_rules.specs.declared.system.RuleSystem.{RuleSystem}
+use Rattle.etp_canonical.specs.Judgements.{LawHolds}
 use Rattle.etp_complete.specs.Completions.{Problem, weight_of, FailsFirst, rule_from, Orients, IsUnorientable, AreSmall, rule_limit, side_limit, ComesTo, IsComplete}
 use Rattle.etp_complete.specs.Answers.{IsAnswer}
 use Rattle.etp_complete.specs.declared.answer.Origin.{Origin}
-use Rattle.etp_complete.specs.declared.answer.Completed.{Completed}
-use Rattle.etp_complete.specs.declared.answer.Completed.TheVariants as End
 use Rattle.etp_complete.specs.declared.asking.Question.{Question}
 use Rattle.etp_complete.specs.declared.growing.Directed.{Directed}
 use Rattle.etp_complete.specs.declared.growing.Directed.TheVariants as Direction
@@ -75,6 +74,11 @@ IsFailing p rules Nothing = IsComplete p rules
 IsFailing p rules (Forms origin l r) = FailsFirst p rules origin (two_forms (tree_of l) (tree_of r))
 IsFailing p rules (TermLimit origin) = FailsFirst p rules origin term_limit
 IsFailing p rules (StepLimit origin) = FailsFirst p rules origin step_limit
+
+-- what fails first of each problem that has this weight and whose law doesn't fail
+abbrev pub IsFailingPair : Weight → List Equation → Failing → Type 0
+IsFailingPair w rules f = (p : Problem) → w ≡ weight_of p → LawHolds p.laws rules p.from
+    → IsFailing p rules f
 
 -- the weight is in range where a run ends before the weight is looked at
 abbrev pub CanRange : Weight → List Equation → Tree → Tree → Type 0

@@ -27,7 +27,11 @@ pub fn complete(
     requires proper { 2 ≤ from }
     requires target { IsSome (law_numbered laws.now.equations target) }
     ensures answer { IfOk result (IsAnswer (record {
-        laws = laws.now.equations; from = from; target = target; weight = weight })) }
+      laws = laws.now.equations;
+      from = from;
+      target = target;
+      weight = weight;
+    })) }
     ensures valid { IfOk result (λ c. IfDone c (IsValidSystem laws.now.equations)) }
     ensures apart { IfOk result (λ c. IfDone c (λ _. Refutes laws.now.equations from target)) }
     ensures joined { IfOk result (λ c. IfJoined c (Implies laws.now.equations from target)) }

@@ -6,14 +6,15 @@ ghost use Rattle.etp_laws.specs.Listing.{IsTheList};
 ghost use Rattle.etp_rules.specs.Rules.{rules_of};
 ghost use Rattle.etp_rules.specs.Weighing as Weighing;
 ghost use Rattle.etp_rules.specs.Deciding.{weight_in};
-ghost use Rattle.etp_complete.specs.Rounds.{problem, IsFailing};
+ghost use Rattle.etp_complete.specs.declared.answer.Origin.TheVariants.{Pair};
+ghost use Rattle.etp_complete.specs.Rounds.{problem, IsFailing, IsFailingPair};
 
 use crate::answer::Origin;
 use crate::asking::Question;
 use etp_laws::Laws;
 use etp_pairs::{Judged, PairsRefusal, convergent, judge_terms};
 use etp_rules::RuleSystem;
-use etp_term::{Law, NoMemory, Term};
+use etp_term::{Law, NoMemory, Position, Term};
 use std::alloc::{AllocError, Global};
 
 /// What fails first.
@@ -50,19 +51,51 @@ pub(crate) fn first_failing(
         Judged::TermLimit => return Ok(Failing::TermLimit(Origin::Law(asked.from))),
         Judged::StepLimit => return Ok(Failing::StepLimit(Origin::Law(asked.from))),
     }
+    first_pair(alloc, system)
+}
+
+/// The first overlap of the rules whose two results don't have one normal form.
+fn first_pair(alloc: Global, system: &RuleSystem) -> Result<Failing, NoMemory>
+    ensures { IfOk result (IsFailingPair (Weighing.weight_of system.now.weights)
+        (rules_of system.now.rules)) }
+{
     match convergent(alloc, system) {
         Ok(()) => Ok(Failing::Nothing),
-        Err(PairsRefusal::Unjoinable { outer, position, inner, left_form, right_form }) => {
-            let origin = Origin::Pair { outer, position, inner };
-            Ok(Failing::Forms(origin, left_form, right_form))
-        }
-        Err(PairsRefusal::TermLimit { outer, position, inner }) => {
-            Ok(Failing::TermLimit(Origin::Pair { outer, position, inner }))
-        }
-        Err(PairsRefusal::StepLimit { outer, position, inner }) => {
-            Ok(Failing::StepLimit(Origin::Pair { outer, position, inner }))
-        }
+        Err(
+            PairsRefusal::Unjoinable {
+                outer,
+                position,
+                inner,
+                left_form,
+                right_form,
+            },
+        ) => Ok(Failing::Forms(pair(outer, position, inner), left_form, right_form)),
+        Err(
+            PairsRefusal::TermLimit {
+                outer,
+                position,
+                inner,
+            },
+        ) => Ok(Failing::TermLimit(pair(outer, position, inner))),
+        Err(
+            PairsRefusal::StepLimit {
+                outer,
+                position,
+                inner,
+            },
+        ) => Ok(Failing::StepLimit(pair(outer, position, inner))),
         Err(PairsRefusal::NoMemory) => Err(AllocError),
+    }
+}
+
+/// The overlap of two rules.
+fn pair(outer: u32, position: Position, inner: u32) -> Origin
+    ensures { result ≡ Pair outer position inner }
+{
+    Origin::Pair {
+        outer,
+        position,
+        inner,
     }
 }
 

@@ -41,7 +41,14 @@ pub(crate) fn first_round(alloc: Global, laws: &Laws, asked: Question) -> Result
     let left = law.left.copy(alloc)?;
     let right = law.right.copy(alloc)?;
     let rules = RuleList::empty(alloc);
-    add_rule(alloc, asked.weight, &rules, Origin::Law(asked.from), left, right)
+    add_rule(
+        alloc,
+        asked.weight,
+        &rules,
+        Origin::Law(asked.from),
+        left,
+        right,
+    )
 }
 
 /// One round: what fails first gives one more rule or ends the run, or nothing fails.

@@ -1,4 +1,3 @@
-use Rattle.std.proofs.Common.{List, ℕ}
 use Rattle.std.proofs.lemmas.Result.{IfOk-weaker}
 use Rattle.etp_theory.specs.RightFacts.{Implies, Refutes}
 use Rattle.etp_complete.specs.Completions.{Problem}

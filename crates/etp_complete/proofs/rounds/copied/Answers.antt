@@ -1,5 +1,4 @@
-use Rattle.std.proofs.Common.{List, [], ◌∷◌, ◌++◌, take, sym, ap, ap₂, ◌∙◌, arith}
-use Rattle.etp_term.specs.declared.term.Term.{Term}
+use Rattle.std.proofs.Common.{List, [], ◌∷◌, ◌++◌, take, ap, ap₂, ◌∙◌, arith}
 use Rattle.etp_rules.specs.declared.rule.Rule.{Rule}
 use Rattle.etp_complete.proofs.Lists.{rule_with, one_more_taken, none_inside}
 use Rattle.etp_complete.proofs.rounds.copied.Goals.{in-Some+in_ok-left+in_ok-right+in_ok-push, in_default}

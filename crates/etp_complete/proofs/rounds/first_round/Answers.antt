@@ -1,4 +1,4 @@
-use Rattle.std.proofs.Common.{◌≡◌, ℕ, ◌⊎◌, inl, ap}
+use Rattle.std.proofs.Common.{inl, ap}
 use Rattle.std.proofs.lemmas.Result.{IfOk-weaker}
 use Rattle.etp_term.specs.Terms.{tree_of}
 use Rattle.etp_term.specs.Laws.{equation_of}
