@@ -37,8 +37,8 @@ rule_from l r = record {
   right = numbered_in (variables_of l r) r;
 }
 
--- the rule that two terms give: from the first to the second where that is decreasing, else from the
--- second to the first where that is
+-- the rule that two terms give: from the first to the second where that is decreasing, else from
+-- the second to the first where that is
 pub data Orients (w : Weight) (l r : Tree) (rule : Equation) : Type 0 where
   forth : IsDecreasing w (rule_from l r) → rule ≡ rule_from l r → Orients w l r rule
   back : ¬ IsDecreasing w (rule_from l r) → IsDecreasing w (rule_from r l)

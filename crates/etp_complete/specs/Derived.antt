@@ -33,8 +33,8 @@ HasDerivedRules laws n c =
     (law : Equation) → law_numbered laws n ≡ Some law → AreDerived law (rules_in c)
 
 -- a body of 1 to 64 rules with a weight in range, sides within the limit and one normal form for
--- both results of every overlap, where each law that is to hold does so and each one that is to fail
--- doesn't
+-- both results of every overlap, where each law that is to hold does so and each one that is to
+-- fail doesn't
 pub record IsValidSystem (laws : List Equation) (body : RulesBody) : Type 0 where
   pub some : 1 ≤ length body.rules
   pub few : length body.rules ≤ 64

@@ -31,8 +31,8 @@ pub record IsSystemOf (w : Weight) (rules : List Equation) (system : RuleSystem)
   pub weight_is : Weighing.weight_of system.weights ≡ w
   pub rules_are : rules_of system.rules ≡ rules
 
--- the rule from one term to another: the system has it too, or it isn't decreasing, or the weight is
--- out of range
+-- the rule from one term to another: the system has it too, or it isn't decreasing, or the weight
+-- is out of range
 abbrev pub IsDirected : Weight → List Equation → Tree → Tree → Directed → Type 0
 IsDirected w rules s t (Direction.Decreasing system) =
     IsDecreasing w (rule_from s t) × IsSystemOf w (rules ++ rule_from s t ∷ []) system
@@ -92,7 +92,8 @@ pub record IsReached (p : Problem) (system : RuleSystem) : Type 0 where
 
 -- the run comes to one more rule, or ends
 abbrev pub IsNext : Problem → ℕ → Round → Type 0
-IsNext p count (Next.Grown system) = IsReached p system × (length (rules_of system.rules) ≡ count + 1)
+IsNext p count (Next.Grown system) =
+    IsReached p system × (length (rules_of system.rules) ≡ count + 1)
 IsNext p count (Next.Ended c) = IsAnswer p c
 
 -- each problem that comes to the rules, and of which two such forms are found first, goes on so

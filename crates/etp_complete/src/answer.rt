@@ -28,8 +28,8 @@ pub enum Completed {
         rules: RuleList,
         form: Term,
     },
-    /// The first weight out of range: 0, 1, 2 for what counts the left part, the right part, and what
-    /// is added.
+    /// The first weight out of range: 0, 1, 2 for what counts the left part, the right part, and
+    /// what is added.
     WeightRange {
         which: u8,
     },

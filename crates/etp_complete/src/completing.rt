@@ -14,7 +14,8 @@ use etp_term::NoMemory;
 use std::alloc::Global;
 
 /// Completes law `from` under the weight: while the law or an overlap of the rules has two normal
-/// forms, one more rule is made of them (Knuth and Bendix 1970). In the end law `target` is looked at.
+/// forms, one more rule is made of them (Knuth and Bendix 1970). In the end law `target` is looked
+/// at.
 pub fn complete(
     alloc: Global,
     laws: &Laws,

@@ -143,7 +143,8 @@ fn finish(
     }
 }
 
-/// The weight and the rules, with the law as the one that holds and the target as the one that fails.
+/// The weight and the rules, with the law as the one that holds and the target as the one that
+/// fails.
 fn body_of(alloc: Global, asked: Question, system: &RuleSystem) -> Result<RulesBody, NoMemory>
     ensures weight { IfOk result (λ body. body.weight ≡ asked.weight) }
     ensures rules { IfOk result (λ body. body.rules ≡ system.now.rules) }
