@@ -1,0 +1,4 @@
+pub mod Values
+pub mod FirstFailing
+pub mod Rounds
+pub mod Ends

@@ -1,0 +1,6 @@
+//! What holds of all completions.
+#![tactic(auto)]
+
+mod theorems;
+
+pub use theorems::completion_theorems;
