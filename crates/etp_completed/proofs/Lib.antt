@@ -2,3 +2,4 @@ pub mod Values
 pub mod FirstFailing
 pub mod Rounds
 pub mod Ends
+pub mod Accepting

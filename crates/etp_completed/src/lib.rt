@@ -3,4 +3,4 @@
 
 mod theorems;
 
-pub use theorems::completion_theorems;
+pub use theorems::{acceptance_theorems, completion_theorems};
