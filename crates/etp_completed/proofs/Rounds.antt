@@ -1,5 +1,6 @@
 -- Rounds add one rule, so they come to one list of rules after another.
-use Rattle.std.proofs.Common.{◌≡◌, ℕ, zero, suc, ◌<◌, ◌⊎◌, inl, inr, List, [], ◌∷◌, ◌++◌, Some, slice_get, sym, ap, ◌∙◌, subst, subst₂, arith}
+use Rattle.std.proofs.Common.{◌≡◌, ℕ, zero, suc, ◌<◌, ◌≤◌, ◌⊎◌, inl, inr, List, [], ◌∷◌, ◌++◌, length, Some, slice_get, sym, ap, ◌∙◌, subst, subst₂, arith}
+use Rattle.std.proofs.lemmas.List.{length-append}
 use Rattle.std.proofs.lemmas.Option.{same_Some, slice_get_within}
 use Rattle.etp_theory.specs.Trees.{Tree, Equation}
 use Rattle.etp_theory.specs.Weights.{Weight, IsDecreasing, AllDecrease}
@@ -41,6 +42,15 @@ all_decrease p range rules c = record {
   right_counts = omega (arith, range.right_low);
   each = all_lower p c;
 }
+
+-- no round begins with 64 rules
+
+short_more : (p : Problem) (rules more : List Equation) → Adds p rules more → length more ≤ 64
+short_more p rules more a = omega (arith, ap length a.added, length-append rules (a.rule ∷ []), a.room)
+
+pub few : (p : Problem) {rules : List Equation} → ComesTo p rules → length rules ≤ 64
+few p at_first = omega arith
+few p (by_round {rules = xs} {more = ys} c a) = short_more p xs ys a
 
 -- a round adds one rule
 

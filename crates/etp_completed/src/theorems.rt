@@ -2,7 +2,7 @@
 ghost use Rattle.etp_completed.specs.Theorems.{CompletionTheorems};
 ghost use Rattle.etp_completed.specs.Acceptance.{AcceptanceTheorems};
 
-/// A problem has one answer.
+/// A problem has one answer, and each rule to which its rounds come is derived.
 pub fn completion_theorems()
     ensures { CompletionTheorems }
 {}
