@@ -30,6 +30,15 @@ pub enum Task {
         leaves: u8,
         steps: u8,
     },
+    /// A completion of a law of order 4, from 2 on, under a weight that is in no range yet; the target
+    /// is the law, of order 4, that is to fail.
+    Complete {
+        law: u32,
+        target: u32,
+        a: u32,
+        b: u32,
+        c: u32,
+    },
     Unknown,
 }
 
@@ -50,6 +59,14 @@ pub fn task_of(words: &[String]) -> Task
             f.as_bytes(),
             leaves.as_bytes(),
             steps.as_bytes(),
+        ),
+        [word, law, target, a, b, c] => complete_task(
+            word.as_bytes(),
+            law.as_bytes(),
+            target.as_bytes(),
+            a.as_bytes(),
+            b.as_bytes(),
+            c.as_bytes(),
         ),
         _ => Task::Unknown,
     }
@@ -137,5 +154,31 @@ fn shortest_task(word: &[u8], e: &[u8], f: &[u8], leaves: &[u8], steps: &[u8]) -
         goal,
         leaves: leaves as u8,
         steps: steps as u8,
+    }
+}
+
+fn complete_task(word: &[u8], law: &[u8], target: &[u8], a: &[u8], b: &[u8], c: &[u8]) -> Task
+    ensures task { result ≡ task_of
+        (word.now ∷ law.now ∷ target.now ∷ a.now ∷ b.now ∷ c.now ∷ []) }
+    ensures range { IsInRange result }
+{
+    if !is(word, "complete") {
+        return Task::Unknown;
+    }
+    let Some(law) = between(2, 4694, law) else {
+        return Task::Unknown;
+    };
+    let Some(target) = between(1, 4694, target) else {
+        return Task::Unknown;
+    };
+    let (Some(a), Some(b), Some(c)) = (number_word(a), number_word(b), number_word(c)) else {
+        return Task::Unknown;
+    };
+    Task::Complete {
+        law,
+        target,
+        a,
+        b,
+        c,
     }
 }

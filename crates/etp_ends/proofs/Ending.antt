@@ -2,7 +2,8 @@
 use Rattle.std.proofs.Common.{◌≡◌, ◌≢◌, ℕ, zero, suc, ◌≤◌, ◌⊎◌, inl, inr, List, Bool, true, false, Some, Option, refl, sym, ◌∙◌, subst, arith}
 use Rattle.std.specs.Prelude.{IfSome}
 use Rattle.etp_serving.specs.Streams.{Streams}
-use Rattle.etp_serving.specs.Protocols.{Protocol}
+use Rattle.etp_reply.specs.Shelves.{known}
+use Rattle.etp_serving.specs.Protocols.{Protocol, ledger_protocol}
 use Rattle.etp_serving.specs.Sessions.{IsSession, IsWholeSession}
 use Rattle.etp_serving.specs.SessionEnds.{SessionEnds, EndsAtFault, EndsAtName, EndsPastLimit, EndsAtLong}
 use Rattle.etp_serving.specs.Ends.{EndsWell}
@@ -65,3 +66,16 @@ told p old new status bytes text refused one tells is s u = go (ends p old new s
     go (inl e) = inr (subst (λ (b : Bool). status ≡ status_for b) (said p old new bytes text refused false one tells is (s.well e)) e)
     go (inr (inl e)) = inr (subst (λ (b : Bool). status ≡ status_for b) (said p old new bytes text refused true one tells is (s.refused e)) e)
     go (inr (inr e)) = inl e
+
+-- the same over what the shelf is known to keep
+pub told_of : {H : Type 0} (limit : ℕ) (keeps : Option (List ℕ → Option (List ℕ))) (kept : List ℕ → Option (List ℕ))
+    (old new : Streams H) (status : ℕ) (bytes text : List ℕ) (refused : Bool)
+    → HasOneText (ledger_protocol (known limit (Some kept))) bytes → old.source.left ≡ Some bytes → keeps ≡ Some kept
+    → IsSession (ledger_protocol (known limit (Some kept))) bytes text refused
+    → SessionEnds (ledger_protocol (known limit keeps)) old new status
+    → IsUndisturbed (ledger_protocol (known limit keeps)) old new
+    → (status ≡ 5) ⊎ (status ≡ status_for refused)
+told_of limit keeps kept old new status bytes text refused one tells e is s u =
+    told (ledger_protocol (known limit (Some kept))) old new status bytes text refused one tells is
+    (subst (λ (k : Option (List ℕ → Option (List ℕ))). SessionEnds (ledger_protocol (known limit k)) old new status) e s)
+    (subst (λ (k : Option (List ℕ → Option (List ℕ))). IsUndisturbed (ledger_protocol (known limit k)) old new) e u)

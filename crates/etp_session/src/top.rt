@@ -8,6 +8,7 @@ ghost use Rattle.etp_tasks.specs.Scripts.{IsScriptOf};
 ghost use Rattle.etp_tasks.specs.Searches.{IsSearchOf};
 ghost use Rattle.etp_tasks.specs.Writing.{WritesSome};
 ghost use Rattle.etp_demo.specs.Demos.{IsDemoOf};
+ghost use Rattle.etp_completing.specs.Completions.{IsCompletionOf};
 ghost use Rattle.etp_serving.specs.Streams.{streams};
 ghost use Rattle.etp_serving.specs.Protocols.{ledger_protocol};
 ghost use Rattle.etp_serving.specs.Sessions.{IsWholeSession};
@@ -18,6 +19,7 @@ ghost use Rattle.etp_reply.specs.Shelves.{known};
 
 use etp_arguments::{Task, task_of};
 use etp_command::ListOrder;
+use etp_completing::{Completion, write_completion};
 use etp_demo::write_demo;
 use etp_io::{Shelf, Sink, Source, SureShelf, SureSink, SureSource};
 use etp_serving::session;
@@ -33,7 +35,8 @@ const LIMIT: u64 = 134_217_728;
 /// `laws 5` ask for the list of the laws of at most four, or five, operations; `generate K N` for K
 /// generated files of the seed N, K from 1 to 10000; `demo K N` for the summary of a ledger that took
 /// these files and withdrew the first; `shortest E F LEAVES STEPS` for a shortest proof of law F from
-/// law E over terms of at most LEAVES leaves, 1 to 6, in at most STEPS steps, 0 to 12.
+/// law E over terms of at most LEAVES leaves, 1 to 6, in at most STEPS steps, 0 to 12; `complete N F
+/// A B C` for a rule system, under the weight A B C, by which law N holds and law F fails.
 /// With any other words the status is 2, and nothing is read or written.
 pub fn run<S: Source, K: Sink, H: Shelf>(
     alloc: Global,
@@ -59,8 +62,8 @@ pub fn run<S: Source, K: Sink, H: Shelf>(
     ensures laws { (order : ListOrder) → IsTask (map string_bytes words.now) (Task.Laws order)
         → WritesLaws (operations_of order) (K.took sink.old) (K.took sink.new) result }
 
-    // Generated files, the summary of a ledger that took them, and the search for a shortest proof: at
-    // 0 the text was written, at 4 a prefix, at 5 nothing.
+    // Generated files, the summary of a ledger that took them, the search for a shortest proof, and a
+    // completion: at 0 the text was written, at 4 a prefix, at 5 nothing.
     ensures generate { (count seed : ℕ)
         → IsTask (map string_bytes words.now) (Task.Generate count seed)
         → WritesSome (IsScriptOf count seed) (K.took sink.old) (K.took sink.new) result }
@@ -70,6 +73,9 @@ pub fn run<S: Source, K: Sink, H: Shelf>(
     ensures shortest { (e f leaves steps : ℕ)
         → IsTask (map string_bytes words.now) (Task.Shortest e f leaves steps)
         → WritesSome (IsSearchOf e f leaves steps) (K.took sink.old) (K.took sink.new) result }
+    ensures complete { (law target a b c : ℕ)
+        → IsTask (map string_bytes words.now) (Task.Complete law target a b c)
+        → WritesSome (IsCompletionOf law target a b c) (K.took sink.old) (K.took sink.new) result }
     ensures unread { (IsTask (map string_bytes words.now) Task.Session → ⊥)
         → (source.new ≡ source.old) × (shelf.new ≡ shelf.old) }
 
@@ -96,6 +102,22 @@ pub fn run<S: Source, K: Sink, H: Shelf>(
                 steps,
             };
             write_search(alloc, search, sink)
+        }
+        Task::Complete {
+            law,
+            target,
+            a,
+            b,
+            c,
+        } => {
+            let completion = Completion {
+                law,
+                target,
+                a,
+                b,
+                c,
+            };
+            write_completion(alloc, completion, sink)
         }
         Task::Unknown => 2,
     }

@@ -1,0 +1,2 @@
+pub mod CompletionTexts
+pub mod Completions
