@@ -1,0 +1,3 @@
+pub mod CancelLines
+pub mod FiniteLines
+pub mod Said
