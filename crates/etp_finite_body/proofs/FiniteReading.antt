@@ -1,5 +1,5 @@
 -- A reader of bodies about finite magmas with one line more, and at its end.
-use Rattle.std.proofs.Common.{◌≡◌, ℕ, ◌⊎◌, inl, inr, Bool, List, [], ◌∷◌, ◌++◌, refl, sym, ap, subst, ◌∙◌, IfOk, IfErr, OnOk, Result, Ok, Err}
+use Rattle.std.proofs.Common.{◌≡◌, ℕ, inl, inr, Bool, List, [], ◌∷◌, ◌++◌, refl, sym, ap, subst, ◌∙◌, IfOk, IfErr, OnOk, Result, Ok, Err}
 use Rattle.etp_io.specs.Texts.{LineText, whole, too_long}
 use Rattle.etp_words.specs.Words.{IsBlankLine}
 use Rattle.etp_reading.proofs.Theorems.{reading_theorems}

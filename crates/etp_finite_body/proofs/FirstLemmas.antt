@@ -1,11 +1,11 @@
 -- The first line that isn't blank.
-use Rattle.std.proofs.Common.{◌≡◌, ℕ, ◌⊎◌, inl, inr, arith, List, [], ◌∷◌, ◌++◌, codes, length, sym, ap, ◌∙◌}
+use Rattle.std.proofs.Common.{◌≡◌, ℕ, inl, inr, arith, List, [], ◌∷◌, ◌++◌, codes, length, sym, ap, ◌∙◌}
 use Rattle.std.specs.List.{AllByRecursion}
 use Rattle.etp_io.specs.Texts.{LineText, whole, too_long}
 use Rattle.etp_words.specs.Words.{words_of, IsBlankLine}
 use Rattle.etp_finite_body.specs.Reading.{IsBlankText, FirstIs, IsInfinite, IsModel}
 use Rattle.etp_finite_body.specs.Work.{BeginsAs}
-use Rattle.etp_finite_body.specs.declared.first.First.TheVariants.{Blank, Infinite, Model, Proof}
+use Rattle.etp_finite_body.specs.declared.first.First.TheVariants.{Infinite, Model, Proof}
 
 pub first_more : (is : LineText → Type 0) (xs ys : List LineText) → FirstIs is xs → FirstIs is (xs ++ ys)
 first_more is [] ys h = absurd h

@@ -1,10 +1,10 @@
 -- A step at the end of the last lemma.
-use Rattle.std.proofs.Common.{◌≡◌, ℕ, zero, suc, ◌-◌, ◌<◌, arith, Bool, true, false, List, [], ◌∷◌, ◌++◌, length, get_or, refl, sym, ap, ◌∙◌, subst, Option, Some, slice_get, Result, Ok, Err, OnOk}
+use Rattle.std.proofs.Common.{◌≡◌, ℕ, zero, suc, ◌-◌, ◌<◌, arith, Bool, true, false, List, [], ◌∷◌, ◌++◌, length, get_or, sym, ap, ◌∙◌, Some, slice_get, Result, Ok, Err, OnOk}
 use Rattle.std.proofs.Math.ListN.{set}
 use Rattle.etp_proof.specs.declared.proof.Step.{Step}
 use Rattle.etp_proof.specs.declared.proof.Lemma.{Lemma}
 use Rattle.etp_finite_body.specs.declared.lemmas.FiniteLemma.{FiniteLemma}
-use Rattle.etp_finite_body.specs.declared.lemmas.FiniteLemma.TheVariants.{Steps, Cancel}
+use Rattle.etp_finite_body.specs.declared.lemmas.FiniteLemma.TheVariants.{Steps}
 use Rattle.etp_finite_body.specs.Growing.{is_steps, ends_from, ends_in_steps, with_step, with_last_step}
 
 pub last_set : (xs : List FiniteLemma) (x : Step) (n : ℕ) (y z : FiniteLemma) → suc n ≡ length xs → y ≡ get_or xs n y → z ≡ with_step y x → set xs n z ≡ with_last_step xs x

@@ -1,7 +1,7 @@
 -- Lines that begin a table or a linear magma with a modulus, and are a body, are such a magma.
-use Rattle.std.proofs.Common.{◌≡◌, ◌≢◌, ℕ, ◌⊎◌, inl, inr, Bool, List, [], ◌∷◌, ◌++◌, codes, map, refl, sym, ap, ◌∙◌, subst, Some}
+use Rattle.std.proofs.Common.{◌≡◌, ◌≢◌, ℕ, inl, inr, Bool, List, [], ◌∷◌, ◌++◌, codes, map, refl, sym, ap, ◌∙◌, subst, Some}
 use Rattle.etp_io.specs.Texts.{LineText, whole, too_long}
-use Rattle.etp_words.specs.Words.{words_of, IsBlankLine}
+use Rattle.etp_words.specs.Words.{words_of}
 use Rattle.etp_reading.specs.Reading.{Reads}
 use Rattle.etp_linear.specs.Magmas.{LinearMagma}
 use Rattle.etp_linear.specs.declared.parts.Ring.{Ring}
@@ -10,8 +10,7 @@ use Rattle.etp_lines.specs.ProofLines.{Version, heading}
 use Rattle.etp_lines.specs.LinearLines.{SaysLinear, BeginsRing}
 use Rattle.etp_lines.specs.MatrixLines as Matrices
 use Rattle.etp_lines.specs.RulesLines as Systems
-use Rattle.etp_lines.specs.Claims.{Claims}
-use Rattle.etp_lines.specs.BodyLines.{Kind, of_proofs, of_tables, of_linear, of_matrices, of_rules, kind_named, LineOf, Line, Says, opening, Place, proof_line, linear_line, matrix_line, rules_line, claim_line, bodies}
+use Rattle.etp_lines.specs.BodyLines.{Kind, of_tables, of_linear, kind_named, Line, Says, opening, Place, proof_line, linear_line, matrix_line, rules_line, claim_line, bodies}
 use Rattle.etp_lines.proofs.OneLine.{one_line, blank_line, none_of_kind}
 use Rattle.etp_items.specs.Bodies.{FileBody, Model, table, linear, matrix, rules, proof, model}
 use Rattle.etp_items.specs.Reading.{SaysModel, SaysBody, IsReadBody}

@@ -10,16 +10,16 @@ use Rattle.etp_reading.specs.declared.tally.Tally.{Tally}
 use Rattle.etp_reading.specs.declared.refusal.BodyRefusal.{BodyRefusal}
 use Rattle.etp_reading.specs.declared.refusal.BodyRefusal.TheVariants.{BadLine, UnknownLaw, TooManyLines, Unfinished}
 use Rattle.etp_reading.proofs.Theorems.{tally_theorems}
-use Rattle.etp_finite_lines.specs.FiniteLines.{FiniteLine, FinitePlace, opening, headed, stepping, cancelled, after_opening, after, is_complete, finite_proofs}
+use Rattle.etp_finite_lines.specs.FiniteLines.{FiniteLine, FinitePlace, headed, stepping, cancelled, after, is_complete, finite_proofs}
 use Rattle.etp_finite_lines.proofs.OneFiniteLine.{one}
 use Rattle.etp_finite_body.proofs.WorkLemmas.{everywhere}
 use Rattle.etp_finite_body.specs.declared.lemmas.FiniteLemma as Lemmas
 use Rattle.etp_finite_body.specs.declared.lemmas.FiniteLemma.TheVariants.{Steps, Cancel}
 use Rattle.etp_finite_body.specs.declared.body.FiniteProof.{FiniteProof}
 use Rattle.etp_finite_body.specs.declared.proof_reader.ProofReader.{ProofReader}
-use Rattle.etp_finite_body.specs.FiniteBodies.{FiniteProofBody, finite_lemma_of, finite_proof_of, finite_proof_lines}
+use Rattle.etp_finite_body.specs.FiniteBodies.{FiniteProofBody, finite_lemma_of, finite_proof_of}
 use Rattle.etp_finite_body.specs.Reading.{IsReadProof}
-use Rattle.etp_finite_body.specs.Work.{place_after, proof_place, proof_said, OpensProof, TakesInProof, HasCome, GoesOn, Takes, IsWhole, TakesLine, HasReadProof}
+use Rattle.etp_finite_body.specs.Work.{place_after, proof_place, OpensProof, TakesInProof, HasCome, GoesOn, Takes, IsWhole, TakesLine, HasReadProof}
 
 -- a proof goes on as its work does
 pub proof_takes : (old new : FiniteProof) (said : FiniteLine) (taken : Bool) → TakesInProof old said new taken → Takes (Some old) said (Some new) taken

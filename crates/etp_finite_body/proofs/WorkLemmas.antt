@@ -1,11 +1,11 @@
 -- What a finite proof said, and how far it has come, with one line more.
-use Rattle.std.proofs.Common.{◌≡◌, ℕ, ◌<◌, ◌⊎◌, inl, inr, arith, Bool, true, false, List, [], ◌∷◌, ◌++◌, length, map, refl, sym, ap, ◌∙◌, Some, None, append_assoc, append-nil}
+use Rattle.std.proofs.Common.{◌≡◌, ◌<◌, ◌⊎◌, inl, inr, arith, Bool, true, false, List, [], ◌∷◌, ◌++◌, length, map, refl, sym, ap, ◌∙◌, Some, None, append_assoc, append-nil}
 use Rattle.etp_theory.specs.Trees.{Tree}
 use Rattle.etp_theory.specs.Proofs as Theory
 use Rattle.etp_theory.specs.Proofs.{ProofStep}
 use Rattle.etp_term.specs.Terms.{tree_of}
 use Rattle.etp_term.specs.declared.term.Term.{Term}
-use Rattle.etp_proof.specs.Lemmas.{step_of, lemma_of}
+use Rattle.etp_proof.specs.Lemmas.{step_of}
 use Rattle.etp_proof.specs.declared.proof.Step.{Step}
 use Rattle.etp_proof.specs.declared.proof.Lemma.{Lemma}
 use Rattle.etp_lines.specs.ProofLines.{plain, heading, cite, lemma, step}
@@ -22,7 +22,7 @@ use Rattle.etp_finite_body.specs.declared.lemmas.FiniteLemma.TheVariants.{Steps,
 use Rattle.etp_finite_body.specs.declared.body.FiniteProof.{FiniteProof}
 use Rattle.etp_finite_body.specs.Growing.{is_steps, ends_from, ends_in_steps, with_step, with_last_step}
 use Rattle.etp_finite_body.specs.FiniteBodies.{finite_lemma_of, finite_lemma_lines, lines_of_lemma}
-use Rattle.etp_finite_body.specs.Work.{place_of, place_after, proof_place, proof_said, TakesInProof}
+use Rattle.etp_finite_body.specs.Work.{place_of, place_after, proof_place, TakesInProof}
 use Rattle.etp_lines.proofs.SideLemmas.{map_end}
 
 true_false : true ≡ false → ⊥

@@ -1,5 +1,5 @@
 -- What a reader has read of a body about finite magmas.
-use Rattle.std.specs.Prelude.{◌≡◌, ℕ, Bool, true, false, List, [], ◌∷◌, ◌++◌, map, Option, Some, None}
+use Rattle.std.specs.Prelude.{◌≡◌, ℕ, Bool, true, false, List, [], ◌∷◌, ◌++◌, Option, Some, None}
 use Rattle.std.specs.List.{AllByRecursion}
 use Rattle.etp_io.specs.Texts.{LineText, whole}
 use Rattle.etp_words.specs.Words.{IsBlankLine}

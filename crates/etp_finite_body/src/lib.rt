@@ -20,3 +20,6 @@ pub use refusal::FiniteBodyRefusal;
 pub fn finite_body_theorems()
     ensures { FiniteBodyTheorems }
 {}
+
+#[cfg(test)]
+mod tests;
