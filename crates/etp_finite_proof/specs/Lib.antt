@@ -1,0 +1,2 @@
+pub mod FiniteProofs
+pub mod Growing
