@@ -28,19 +28,37 @@ fn cancelling(alloc: Global, line: u32, first: u8, second: u8) -> Result<FiniteP
     })
 }
 
+/// What the replay answers where its conditions hold.
+fn replayed(
+    alloc: Global,
+    laws: &Laws,
+    proof: &FiniteProof,
+) -> Option<Result<(), FiniteReplayRefusal>> {
+    if laws.law(proof.hypothesis).is_none() {
+        return None;
+    }
+    if laws.law(proof.goal).is_none() {
+        return None;
+    }
+    if proof.lemmas.len() == 0 {
+        return None;
+    }
+    Some(replay_finite(alloc, laws, proof))
+}
+
 #[test]
 fn a_line_that_cancels_proves_a_law(rt: HostRuntime) {
     let laws = Laws::build(rt.alloc()).expect(&rt, "memory");
     let right = cancelling(rt.alloc(), 0, 1, 0).expect(&rt, "memory");
-    assert!(rt; replay_finite(rt.alloc(), &laws, &right).is_ok());
+    assert!(rt; matches!(replayed(rt.alloc(), &laws, &right), Some(Ok(()))));
     let differs = cancelling(rt.alloc(), 0, 0, 1).expect(&rt, "memory");
-    match replay_finite(rt.alloc(), &laws, &differs) {
-        Err(FiniteReplayRefusal::CancelDiffers { lemma }) => assert!(rt; lemma == 1),
+    match replayed(rt.alloc(), &laws, &differs) {
+        Some(Err(FiniteReplayRefusal::CancelDiffers { lemma })) => assert!(rt; lemma == 1),
         _ => assert!(rt; false),
     }
     let itself = cancelling(rt.alloc(), 1, 1, 0).expect(&rt, "memory");
-    match replay_finite(rt.alloc(), &laws, &itself) {
-        Err(FiniteReplayRefusal::Replay(_)) => {}
+    match replayed(rt.alloc(), &laws, &itself) {
+        Some(Err(FiniteReplayRefusal::Replay(_))) => {}
         _ => assert!(rt; false),
     }
 }
