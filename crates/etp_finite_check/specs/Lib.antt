@@ -1,0 +1,3 @@
+pub mod FiniteBodies
+pub mod FiniteChecks
+pub mod FiniteRefusals
