@@ -9,7 +9,7 @@ use Rattle.etp_laws.proofs.Entries.{entry_zero}
 use Rattle.etp_replay.specs.Validity.{law_at}
 use Rattle.etp_replay.proofs.Goals.{listed_law}
 use Rattle.etp_cancel.specs.FiniteFacts.{IsRightFiniteFact}
-use Rattle.etp_finite_check.specs.FiniteBodies.{FiniteFileBody, proof, model}
+use Rattle.etp_finite_body.specs.FiniteBodies.{FiniteFileBody, proof, model}
 use Rattle.etp_finite_check.specs.FiniteChecks.{fact_said, IsListedBody}
 use Rattle.etp_finite_check.proofs.FiniteRights.{right_fact}
 use Rattle.etp_finite.specs.Files.{File, facts_of}

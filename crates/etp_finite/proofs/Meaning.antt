@@ -16,7 +16,7 @@ use Rattle.etp_closure.specs.declared.facts.Answer.{Answer}
 use Rattle.etp_closure.specs.declared.facts.Answer.TheVariants.{Implied, Refuted, Unsettled}
 use Rattle.etp_cancel.specs.FiniteFacts.{AreRightFiniteFacts}
 use Rattle.etp_cancel.proofs.FiniteReach as Reaching
-use Rattle.etp_finite_check.specs.FiniteBodies.{FiniteFileBody}
+use Rattle.etp_finite_body.specs.FiniteBodies.{FiniteFileBody}
 use Rattle.etp_finite_check.specs.FiniteChecks.{fact_said, IsListedBody}
 use Rattle.etp_finite.specs.Naming.{HasLaws}
 use Rattle.etp_laws.specs.LawLists.{LawList}

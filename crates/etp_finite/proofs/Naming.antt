@@ -7,7 +7,7 @@ use Rattle.std.specs.Map.{lookup, keys_of, values_of}
 use Rattle.std.specs.Cmp.Lexicographic.{bytes_decides}
 use Rattle.std.specs.Str.{bytes_eq}
 use Rattle.std.specs.declared.vec.Vec.{Vec}
-use Rattle.etp_finite_check.specs.FiniteBodies.{FiniteFileBody, finite_body_of}
+use Rattle.etp_finite_body.specs.FiniteBodies.{FiniteFileBody, finite_body_of}
 use Rattle.etp_finite_check.specs.FiniteChecks.{fact_said}
 use Rattle.etp_finite.specs.Files.{File, is_named, body_named, facts_of}
 use Rattle.etp_finite.proofs.Lists.{map_get}

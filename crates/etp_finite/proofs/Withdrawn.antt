@@ -5,7 +5,7 @@ use Rattle.std.specs.Str.{bytes_eq}
 use Rattle.std.specs.declared.vec.Vec.{Vec}
 use Rattle.etp_theory.specs.Trees.{Equation}
 use Rattle.etp_theory.specs.Reach.{Fact}
-use Rattle.etp_finite_check.specs.FiniteBodies.{FiniteFileBody}
+use Rattle.etp_finite_body.specs.FiniteBodies.{FiniteFileBody}
 use Rattle.etp_finite.specs.Files.{File, facts_of, is_named, body_named}
 use Rattle.etp_finite.specs.Accepting.{IsAccepted, AreAcceptedAfter, AreAccepted}
 use Rattle.etp_finite.specs.Withdrawing.{without}

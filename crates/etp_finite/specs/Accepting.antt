@@ -2,7 +2,7 @@
 use Rattle.std.specs.Prelude.{◌≡◌, ℕ, List, [], ◌∷◌, ◌++◌, None}
 use Rattle.etp_theory.specs.Trees.{Equation}
 use Rattle.etp_proof.specs.Names.{IsName}
-use Rattle.etp_finite_check.specs.FiniteBodies.{FiniteFileBody}
+use Rattle.etp_finite_body.specs.FiniteBodies.{FiniteFileBody}
 use Rattle.etp_finite_check.specs.FiniteChecks.{IsFinitelyValidBody}
 use Rattle.etp_finite.specs.Files.{File, body_named}
 

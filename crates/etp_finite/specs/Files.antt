@@ -2,7 +2,7 @@
 use Rattle.std.specs.Prelude.{◌≡◌, ℕ, List, [], ◌∷◌, Option, Some, None, IsSome, cond, Bool, map}
 use Rattle.std.specs.Str.{bytes_eq}
 use Rattle.etp_theory.specs.Reach.{Fact}
-use Rattle.etp_finite_check.specs.FiniteBodies.{FiniteFileBody}
+use Rattle.etp_finite_body.specs.FiniteBodies.{FiniteFileBody}
 use Rattle.etp_finite_check.specs.FiniteChecks.{fact_said}
 
 -- a name, and what the lines of its file say

@@ -1,7 +1,7 @@
 -- The files as the ledger keeps them.
 use Rattle.std.specs.Prelude.{ℕ, List, map}
 use Rattle.std.specs.declared.vec.Vec.{Vec}
-use Rattle.etp_finite_check.specs.FiniteBodies.{finite_body_of}
+use Rattle.etp_finite_body.specs.FiniteBodies.{finite_body_of}
 use Rattle.etp_finite.specs.Files.{File}
 use Rattle.etp_finite.specs.declared.kept.Kept.{Kept}
 

@@ -2,7 +2,7 @@
 use Rattle.std.specs.Prelude.{◌≡◌, ◌⊎◌, ℕ, List, None}
 use Rattle.etp_laws.specs.LawLists.{LawList}
 use Rattle.etp_theory.specs.LawNumbers.{IsLaw}
-use Rattle.etp_finite_check.specs.FiniteBodies.{FiniteFileBody}
+use Rattle.etp_finite_body.specs.FiniteBodies.{FiniteFileBody}
 use Rattle.etp_finite_check.specs.FiniteRefusals.{IsBodyOffence}
 use Rattle.etp_finite.specs.Files.{File, body_named, Stands}
 use Rattle.etp_finite_check.specs.declared.refusal.FiniteRefusal.{FiniteRefusal}

@@ -2,7 +2,7 @@
 ghost use Rattle.std.specs.Prelude.{◌≡◌, List, [], ◌∷◌, ◌++◌, None, length, OnOk, OnErr, Contains};
 ghost use Rattle.std.specs.Option.{option_map};
 ghost use Rattle.etp_theory.specs.Reach.{Fact as FactOf};
-ghost use Rattle.etp_finite_check.specs.FiniteBodies.{finite_body_of};
+ghost use Rattle.etp_finite_body.specs.FiniteBodies.{finite_body_of};
 ghost use Rattle.etp_closure.specs.Closures.{StandsFor, SameAnswers, HasKeptLaws};
 ghost use Rattle.etp_closure.specs.Facts.{fact_of};
 ghost use Rattle.etp_finite.specs.Files.{facts_of, body_named};

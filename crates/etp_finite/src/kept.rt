@@ -1,10 +1,10 @@
 ghost use Rattle.std.specs.Prelude.{◌≡◌};
 ghost use Rattle.etp_closure.specs.Facts.{fact_of};
-ghost use Rattle.etp_finite_check.specs.FiniteBodies.{finite_body_of};
+ghost use Rattle.etp_finite_body.specs.FiniteBodies.{finite_body_of};
 ghost use Rattle.etp_finite_check.specs.FiniteChecks.{fact_said};
 
 use etp_closure::Fact;
-use etp_finite_check::FiniteBody;
+use etp_finite_body::FiniteBody;
 use indexmap::IndexMap;
 
 /// A body that was accepted, with the fact that it states.

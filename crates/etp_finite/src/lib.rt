@@ -5,7 +5,8 @@ mod facts;
 mod kept;
 mod ledger;
 
-pub use etp_finite_check::{FiniteBody, FiniteRefusal};
+pub use etp_finite_body::FiniteBody;
+pub use etp_finite_check::FiniteRefusal;
 pub use ledger::FiniteLedger;
 
 #[cfg(test)]

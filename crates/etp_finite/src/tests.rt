@@ -1,7 +1,7 @@
 // The worked table of a finite session, by the ledger's own calls.
 use crate::{FiniteBody, FiniteLedger, FiniteRefusal};
 use etp_closure::Answer;
-use etp_finite_proof::{FiniteLemma, FiniteLemmas, FiniteProof};
+use etp_finite_body::{FiniteLemma, FiniteLemmas, FiniteProof};
 use etp_laws::Laws;
 use etp_proof::Label;
 use etp_term::{NoMemory, Term};

@@ -10,10 +10,10 @@ use Rattle.etp_cancel.specs.FiniteFacts.{IsRightFiniteFact}
 use Rattle.etp_cancel.proofs.Concluding as Concluding
 use Rattle.etp_separation.proofs.TableFacts.{table_right}
 use Rattle.etp_separation.proofs.LinearFacts.{linear_right}
-use Rattle.etp_finite_proof.specs.FiniteProofs.{FiniteProofBody}
+use Rattle.etp_finite_body.specs.FiniteBodies.{FiniteProofBody}
 use Rattle.etp_finite_replay.specs.FiniteValidity.{IsFiniteRefused}
 use Rattle.etp_finite_replay.specs.declared.refusal.FiniteReplayRefusal.{FiniteReplayRefusal}
-use Rattle.etp_finite_check.specs.FiniteBodies.{FiniteFileBody, proof, model}
+use Rattle.etp_finite_body.specs.FiniteBodies.{FiniteFileBody, proof, model}
 use Rattle.etp_finite_check.specs.FiniteChecks.{fact_said, IsListedBody, HasContent, IsRightBody, IsFinitelyValidBody}
 use Rattle.etp_finite_check.specs.FiniteRefusals.{replay_refused, IsCheckRefused}
 use Rattle.etp_finite_check.specs.declared.refusal.FiniteRefusal.{FiniteRefusal}

@@ -10,9 +10,9 @@ use Rattle.etp_linear.specs.Judgements as Linears
 use Rattle.etp_linear.specs.declared.parts.Ring.TheVariants.{Modulo}
 use Rattle.etp_lines.specs.Claims.{Claims}
 use Rattle.etp_items.specs.Bodies.{Model, table, linear}
-use Rattle.etp_finite_proof.specs.FiniteProofs.{FiniteProofBody}
+use Rattle.etp_finite_body.specs.FiniteBodies.{FiniteProofBody}
 use Rattle.etp_finite_replay.specs.FiniteValidity.{IsValidFinite}
-use Rattle.etp_finite_check.specs.FiniteBodies.{FiniteFileBody, proof, model}
+use Rattle.etp_finite_body.specs.FiniteBodies.{FiniteFileBody, proof, model}
 
 -- a proof says that its hypothesis implies its goal, a magma that it separates each law that holds
 -- from each law that fails

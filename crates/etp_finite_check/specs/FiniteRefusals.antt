@@ -15,7 +15,7 @@ use Rattle.etp_items.specs.Bodies.{Model, table, linear}
 use Rattle.etp_finite_replay.specs.FiniteValidity.{IsFiniteOffence}
 use Rattle.etp_finite_replay.specs.declared.refusal.FiniteReplayRefusal.{FiniteReplayRefusal}
 use Rattle.etp_finite_replay.specs.declared.refusal.FiniteReplayRefusal.TheVariants as Replays
-use Rattle.etp_finite_check.specs.FiniteBodies.{FiniteFileBody, proof, model}
+use Rattle.etp_finite_body.specs.FiniteBodies.{FiniteFileBody, proof, model}
 use Rattle.etp_finite_check.specs.declared.refusal.FiniteRefusal.{FiniteRefusal}
 use Rattle.etp_finite_check.specs.declared.refusal.FiniteRefusal.TheVariants as Program
 use Rattle.etp_finite_check.specs.declared.refusal.FiniteRefusal.TheVariants.{Replay, CancelDiffers, Linear, NoMemory}

@@ -1,3 +1,2 @@
-pub mod FiniteBodies
 pub mod FiniteChecks
 pub mod FiniteRefusals

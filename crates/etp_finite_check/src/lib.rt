@@ -1,10 +1,8 @@
 //! The check of a body about finite magmas, which gives the fact that it states.
 #![tactic(auto)]
 
-mod body;
 mod checking;
 mod refusal;
 
-pub use body::FiniteBody;
 pub use checking::check_finite;
 pub use refusal::FiniteRefusal;

@@ -7,8 +7,8 @@ use Rattle.etp_term.specs.declared.law.Law.{Law}
 use Rattle.etp_match.proofs.Extending.{map_after}
 use Rattle.etp_replay.proofs.Growing.{taken, stands_at}
 use Rattle.etp_cancel.specs.Cancelling.{FiniteLemma, finite_conclusion, finite_conclusions, IsRightFiniteLemma, AreRightFiniteLemmas}
-use Rattle.etp_finite_proof.specs.FiniteProofs.{finite_lemma_of}
-use Rattle.etp_finite_proof.specs.declared.lemma.FiniteLemma as Program
+use Rattle.etp_finite_body.specs.FiniteBodies.{finite_lemma_of}
+use Rattle.etp_finite_body.specs.declared.lemmas.FiniteLemma as Program
 use Rattle.etp_finite_replay.specs.FiniteReplay.{IsFiniteLemmaRefused, IsFirstWrongLemma}
 use Rattle.etp_finite_replay.specs.declared.refusal.FiniteReplayRefusal.{FiniteReplayRefusal}
 use Rattle.etp_finite_replay.specs.declared.refusal.FiniteReplayRefusal.TheVariants.{NoMemory}

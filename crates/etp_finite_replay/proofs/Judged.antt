@@ -13,8 +13,8 @@ use Rattle.etp_replay.specs.declared.refusal.ReplayRefusal.{ReplayRefusal}
 use Rattle.etp_cancel.specs.FiniteMagmas.{FiniteImplies}
 use Rattle.etp_cancel.specs.Cancelling.{FiniteLemma, finite_conclusion, finite_conclusions, AreRightFiniteLemmas, IsFinitelyValid}
 use Rattle.etp_cancel.proofs.Concluding as Concluding
-use Rattle.etp_finite_proof.specs.FiniteProofs.{finite_lemma_of}
-use Rattle.etp_finite_proof.specs.declared.lemma.FiniteLemma as Program
+use Rattle.etp_finite_body.specs.FiniteBodies.{finite_lemma_of}
+use Rattle.etp_finite_body.specs.declared.lemmas.FiniteLemma as Program
 use Rattle.etp_finite_replay.specs.FiniteReplay.{IsFirstWrongLemma}
 use Rattle.etp_finite_replay.specs.FiniteValidity.{IsOtherFiniteGoal, IsFiniteOffence}
 use Rattle.etp_finite_replay.specs.declared.refusal.FiniteReplayRefusal.{FiniteReplayRefusal}

@@ -5,7 +5,7 @@ use Rattle.etp_laws.specs.LawLists.{LawList}
 use Rattle.etp_replay.specs.Validity.{law_at, IsOtherLaw}
 use Rattle.etp_replay.specs.declared.refusal.ReplayRefusal.{ReplayRefusal}
 use Rattle.etp_cancel.specs.Cancelling.{FiniteLemma, finite_conclusion, AreRightFiniteLemmas, IsFinitelyValid}
-use Rattle.etp_finite_proof.specs.FiniteProofs.{FiniteProofBody}
+use Rattle.etp_finite_body.specs.FiniteBodies.{FiniteProofBody}
 use Rattle.etp_finite_replay.specs.FiniteReplay.{IsFirstWrongLemma}
 use Rattle.etp_finite_replay.specs.declared.refusal.FiniteReplayRefusal.{FiniteReplayRefusal}
 use Rattle.etp_finite_replay.specs.declared.refusal.FiniteReplayRefusal.TheVariants.{Replay, NoMemory}

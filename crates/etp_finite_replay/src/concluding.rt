@@ -2,10 +2,10 @@
 ghost use Rattle.std.specs.Prelude.{◌≡◌, IfOk};
 ghost use Rattle.etp_term.specs.Laws.{equation_of};
 ghost use Rattle.etp_cancel.specs.Cancelling.{finite_conclusion};
-ghost use Rattle.etp_finite_proof.specs.FiniteProofs.{finite_lemma_of};
+ghost use Rattle.etp_finite_body.specs.FiniteBodies.{finite_lemma_of};
 
 use crate::putting::put_for;
-use etp_finite_proof::FiniteLemma;
+use etp_finite_body::FiniteLemma;
 use etp_term::{Law, NoMemory, Term};
 use std::alloc::Global;
 

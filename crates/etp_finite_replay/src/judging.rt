@@ -6,12 +6,12 @@ ghost use Rattle.etp_laws.specs.Listing.{IsTheList};
 ghost use Rattle.etp_replay.specs.Validity.{law_at, IsOtherLaw};
 ghost use Rattle.etp_replay.specs.declared.refusal.ReplayRefusal as Replays;
 ghost use Rattle.etp_cancel.specs.FiniteMagmas.{FiniteImplies};
-ghost use Rattle.etp_finite_proof.specs.FiniteProofs.{finite_proof_of};
+ghost use Rattle.etp_finite_body.specs.FiniteBodies.{finite_proof_of};
 ghost use Rattle.etp_finite_replay.specs.FiniteValidity.{IsValidFinite, IsFiniteRefused};
 
 use crate::refusal::FiniteReplayRefusal;
 use crate::replaying::replay_lemmas;
-use etp_finite_proof::FiniteProof;
+use etp_finite_body::FiniteProof;
 use etp_laws::{Laws, Numbered};
 use etp_replay::ReplayRefusal;
 use etp_term::Law;

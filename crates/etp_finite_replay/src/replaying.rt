@@ -6,14 +6,14 @@ ghost use Rattle.etp_term.specs.Laws.{equation_of};
 ghost use Rattle.etp_proof.specs.Lemmas.{step_of, lemma_of};
 ghost use Rattle.etp_replay.specs.Replay.{IsMissing, IsFoundRefused, IsStepRefused, IsLemmaRefused};
 ghost use Rattle.etp_cancel.specs.Cancelling.{by_cancel, finite_conclusions, IsRightCancel, IsRightFiniteLemma, AreRightFiniteLemmas};
-ghost use Rattle.etp_finite_proof.specs.FiniteProofs.{finite_lemma_of};
+ghost use Rattle.etp_finite_body.specs.FiniteBodies.{finite_lemma_of};
 ghost use Rattle.etp_finite_replay.specs.Known.{hypothesis_in, earlier_in, cancel_in};
 ghost use Rattle.etp_finite_replay.specs.FiniteReplay.{IsFiniteLemmaRefused, IsFirstWrongLemma};
 
 use crate::concluding::conclusion;
 use crate::putting::cancels;
 use crate::refusal::FiniteReplayRefusal;
-use etp_finite_proof::FiniteLemma;
+use etp_finite_body::FiniteLemma;
 use etp_proof::{Lemma, Step};
 use etp_replay::{ReplayRefusal, StepCheck, check_step};
 use etp_term::{Law, NoMemory, Term};

@@ -1,6 +1,6 @@
 // Whole proofs, by laws of the list.
 use crate::{FiniteReplayRefusal, replay_finite};
-use etp_finite_proof::{FiniteLemma, FiniteLemmas, FiniteProof};
+use etp_finite_body::{FiniteLemma, FiniteLemmas, FiniteProof};
 use etp_laws::Laws;
 use etp_term::{NoMemory, Term};
 use sqlite_items::Boxed;

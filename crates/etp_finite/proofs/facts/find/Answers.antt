@@ -1,6 +1,6 @@
 use Rattle.std.proofs.Common.{ap, ◌∙◌}
 use Rattle.std.specs.Option.{option_map}
-use Rattle.etp_finite_check.specs.FiniteBodies.{finite_body_of}
+use Rattle.etp_finite_body.specs.FiniteBodies.{finite_body_of}
 use Rattle.etp_finite.proofs.Naming.{found, seen_body}
 use Rattle.etp_finite.proofs.facts.find.Goals as goal
 

@@ -1,5 +1,5 @@
 use Rattle.std.proofs.Common.{rules}
-use Rattle.etp_finite_check.specs.FiniteBodies.{finite_body_of}
+use Rattle.etp_finite_body.specs.FiniteBodies.{finite_body_of}
 use Rattle.etp_finite_check.proofs.FiniteRights.{is_valid, says_right}
 use Rattle.etp_finite_check.proofs.checking.check_finite.Goals as goal
 

@@ -1,4 +1,4 @@
-use Rattle.etp_finite_proof.specs.FiniteProofs.{finite_proof_of}
+use Rattle.etp_finite_body.specs.FiniteBodies.{finite_proof_of}
 use Rattle.etp_finite_check.proofs.FiniteRights.{proof_refused}
 use Rattle.etp_finite_check.proofs.checking.check_proof.Goals as goal
 

@@ -1,7 +1,7 @@
 use Rattle.std.proofs.Common.{◌≡◌, ◌≢◌, ◌⊎◌, inl, inr, rules}
 use Rattle.etp_table.specs.declared.refusal.TableRefusal.TheVariants as Tables
 use Rattle.etp_items.specs.Bodies.{table, claims_of}
-use Rattle.etp_finite_check.specs.FiniteBodies.{model}
+use Rattle.etp_finite_body.specs.FiniteBodies.{model}
 use Rattle.etp_finite_check.specs.FiniteRefusals.{IsTableOffence, IsCheckRefused}
 use Rattle.etp_finite_check.specs.declared.refusal.FiniteRefusal.TheVariants.{Table, NoMemory}
 use Rattle.etp_finite_check.proofs.checking.check_table.Goals as goal

@@ -1,7 +1,7 @@
 use Rattle.std.proofs.Common.{◌≡◌, [], map, take, length}
 use Rattle.etp_term.specs.Laws.{equation_of}
 use Rattle.etp_cancel.specs.Cancelling.{finite_conclusions, AreRightFiniteLemmas}
-use Rattle.etp_finite_proof.specs.FiniteProofs.{finite_lemma_of}
+use Rattle.etp_finite_body.specs.FiniteBodies.{finite_lemma_of}
 use Rattle.etp_finite_replay.proofs.replaying.replay_lemmas.Given as goal
 
 abbrev pub invariant-loop-at : goal.invariant-loop-at

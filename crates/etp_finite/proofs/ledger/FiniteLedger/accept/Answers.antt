@@ -1,6 +1,6 @@
 use Rattle.std.proofs.Common.{◌≡◌, ◌<◌, ◌++◌, ◌∷◌, [], ℕ, List, length, ap, sym, ◌∙◌, subst, rules}
 use Rattle.etp_laws.specs.Listing.{IsTheList}
-use Rattle.etp_finite_check.specs.FiniteBodies.{finite_body_of}
+use Rattle.etp_finite_body.specs.FiniteBodies.{finite_body_of}
 use Rattle.etp_finite.specs.Naming.{HasLaws}
 use Rattle.etp_finite.specs.Accepting.{IsAccepted}
 use Rattle.etp_finite.specs.Ledgers.{Entries}

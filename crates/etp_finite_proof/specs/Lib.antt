@@ -1,2 +1,0 @@
-pub mod FiniteProofs
-pub mod Growing
