@@ -1,0 +1,3 @@
+pub mod OneLemma
+pub mod OneProof
+pub mod Verdicts
