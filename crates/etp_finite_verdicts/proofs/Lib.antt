@@ -1,3 +1,5 @@
+pub mod FirstSaid
+pub mod OneFiniteBody
 pub mod OneLemma
 pub mod OneProof
 pub mod Verdicts

@@ -3,7 +3,7 @@
 
 ghost use Rattle.etp_finite_verdicts.specs.Theorems.{FiniteVerdictTheorems};
 
-/// A body has one offence, and a valid one none; so a valid file with a free name is refused for want
+/// Lines are one body or are refused; a body has one offence, and a valid one none; so a valid file with a free name is refused for want
 /// of memory alone.
 pub fn finite_verdict_theorems()
     ensures { FiniteVerdictTheorems }
